@@ -1,0 +1,9 @@
+-- The circulant matrix of a first column of sixteen numbers.
+use mathlib.Core.List.{List}
+use Prim.Native.Nat.{ℕ, _+_, _-_, _*_, _%_}
+use lib.ListN.{getD}
+use Rattle.numbers.specs.Lists.{total}
+
+-- row r times the words: the sum over c of column[(16 + r - c) mod 16] times word c
+unfoldable pub rowSum : (column words : List ℕ) (r : ℕ) → ℕ
+rowSum column words r = total 16 0 (λ c. getD column ((16 + r - c) % 16) 0 * getD words c 0)

@@ -1,0 +1,4 @@
+-- The definitions of numbers that every layer above cites.
+pub mod Circulant
+pub mod Lists
+pub mod Modulus

@@ -1,0 +1,1 @@
+// Numbers alone, no code: the definitions stand in specs/, their laws in proofs/.
