@@ -1,1 +1,2 @@
 -- The laws of numbers.
+pub mod Congruence

@@ -1,4 +1,5 @@
 -- The definitions of numbers that every layer above cites.
 pub mod Circulant
+pub mod Congruence
 pub mod Lists
 pub mod Modulus
