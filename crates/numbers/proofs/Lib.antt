@@ -1,2 +1,4 @@
 -- The laws of numbers.
 pub mod Congruence
+pub mod Lists
+pub mod Table

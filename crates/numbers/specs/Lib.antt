@@ -3,3 +3,4 @@ pub mod Circulant
 pub mod Congruence
 pub mod Lists
 pub mod Modulus
+pub mod Table
