@@ -3,4 +3,5 @@ pub mod Circulant
 pub mod Congruence
 pub mod Lists
 pub mod Modulus
+pub mod Power
 pub mod Table
