@@ -1,0 +1,4 @@
+// The hash function Tip5: its field, its permutation and the way back.
+pub mod b_field_element;
+mod field;
+pub mod refusal;
