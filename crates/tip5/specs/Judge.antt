@@ -2,7 +2,8 @@
 use mathlib.Core.Bool.{Bool, true, false, cond}
 use mathlib.Core.List.{List, [], _∷_}
 use Prim.Native.Nat.{ℕ, zero, suc}
-use lib.Dec.{ltb}
+use lib.Dec.{eqb, ltb}
+use lib.ListN.{length}
 use Rattle.numbers.specs.Modulus.{P}
 
 -- every word of the list is below P
@@ -13,6 +14,16 @@ allBelow (w ∷ ws) = cond (ltb w P) (allBelow ws) false
 -- refusal 1 for a raw word that is P or more, 0 for none
 abbrev pub wordRefusal : List ℕ → ℕ
 wordRefusal ws = cond (allBelow ws) 0 1
+
+-- refusal 2 for a slice that does not have the wanted length, 0 for none
+abbrev pub lengthRefusal : (wanted : ℕ) → List ℕ → ℕ
+lengthRefusal n ws = cond (eqb (length ws) n) 0 2
+
+-- the first refusal of a list that is not 0
+abbrev pub first : List ℕ → ℕ
+first [] = 0
+first (zero ∷ ns) = first ns
+first (suc n ∷ ns) = suc n
 
 -- the answer where the refusal is 0, and what stands in its room where it is not
 abbrev pub unless {ℓ} : {A : Type ℓ} → (refusal : ℕ) → A → A → A
