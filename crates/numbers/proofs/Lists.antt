@@ -9,6 +9,7 @@ use native.Mathlib.Nat.{
   le-of-suc-le-suc,
   le-refl,
   mul-add,
+  mul-comm,
   mul-zero,
   not-suc-le-zero,
   suc-add,
@@ -72,6 +73,10 @@ total-add (suc n) i f g = omega (arith, total-add n (suc i) f g)
 pub total-mul : (n i k : ℕ) (f : ℕ → ℕ) → total n i (λ c. k * f c) ≡ k * total n i f
 total-mul zero i k f = sym (mul-zero k)
 total-mul (suc n) i k f = ap (λ (s : ℕ). k * f i + s) (total-mul n (suc i) k f) ∙ sym (mul-add k (f i) (total n (suc i) f))
+
+-- the same with the factor on the right
+pub total-mul-right : (n i k : ℕ) (f : ℕ → ℕ) → total n i (λ c. f c * k) ≡ total n i f * k
+total-mul-right n i k f = total-same n i (λ c low high. mul-comm (f c) k) ∙ total-mul n i k f ∙ mul-comm k (total n i f)
 
 -- a sum over rows of sums over columns is the sum over columns of sums over rows
 pub total-exchange : (n m i j : ℕ) (f : ℕ → ℕ → ℕ) → total n i (λ a. total m j (λ b. f a b)) ≡ total m j (λ b. total n i (λ a. f a b))
