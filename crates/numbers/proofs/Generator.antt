@@ -52,18 +52,20 @@ use Rattle.numbers.proofs.Congruence.{
   cong-trans,
   pow-pow,
 }
-use Rattle.numbers.proofs.Divisors.{Closed, Common, Prime, common, prime-factor, product, trial, trial-prime}
+use Rattle.numbers.proofs.Divisors.{Closed, Common, Prime, common, prime-factor, product}
 use Rattle.numbers.proofs.Pigeonhole.{reaches}
 use Rattle.numbers.proofs.Power.{powMod-pow}
+use Rattle.numbers.proofs.Trial.{trial, trial-prime}
 
 -- q is prime, and the power of g by n / q is not 1
 abbrev pub factorTest : (n g q : ℕ) → Bool
 factorTest n g q = trial q && not (eqb (powMod (suc n) g (n / q)) 1)
 
--- the test's two halves
+-- the test's first half
 factor-prime : (n g q : ℕ) → T (factorTest n g q) → Prime q
 factor-prime n g q t = trial-prime q (and-l (trial q) (not (eqb (powMod (suc n) g (n / q)) 1)) t)
 
+-- the test's second half
 factor-not-one : (n g q : ℕ) → T (factorTest n g q) → powMod (suc n) g (n / q) ≢ 1
 factor-not-one n g q t e =
     T-not (eqb (powMod (suc n) g (n / q)) 1) (and-r (trial q) (not (eqb (powMod (suc n) g (n / q)) 1)) t) (rw e (eqb-refl 1))
@@ -76,11 +78,15 @@ pub record Certificate (n g : ℕ) (qs : List ℕ) : Type 0 where
 
 -- the exponents at which a power is 1 are closed under remainders
 one-closed : (m g : ℕ) → Closed (λ k. Cong m (g ^ k) 1)
-one-closed m g a b ha hb =
-    cong-trans (cong-sym (cong-trans (cong-eq split) (cong-trans (cong-mul cong-refl (cong-one-pow (a / b) hb)) (cong-eq (mul-one (g ^ (a % b))))))) ha
+one-closed m g a b ha hb = cong-trans (cong-sym (cong-trans (cong-eq split) (cong-trans (cong-mul cong-refl (cong-one-pow (a / b) hb)) one))) ha
   where
     split : g ^ a ≡ g ^ (a % b) * (g ^ b) ^ (a / b)
-    split = ap (λ (k : ℕ). g ^ k) (sym (mod-add-div a b)) ∙ pow-add g (a % b) (b * (a / b)) ∙ ap (λ (k : ℕ). g ^ (a % b) * k) (sym (pow-pow g b (a / b)))
+    split =
+        ap (λ (k : ℕ). g ^ k) (sym (mod-add-div a b)) ∙ pow-add g (a % b) (b * (a / b))
+        ∙ ap (λ (k : ℕ). g ^ (a % b) * k) (sym (pow-pow g b (a / b)))
+
+    one : Cong m (g ^ (a % b) * 1) (g ^ (a % b))
+    one = cong-eq (mul-one (g ^ (a % b)))
 
 module _ {n g : ℕ} {qs : List ℕ} (cert : Certificate n g qs) (some : 0 < n) where
   -- g ^ n is 1
@@ -121,9 +127,12 @@ module _ {n g : ℕ} {qs : List ℕ} (cert : Certificate n g qs) (some : 0 < n) 
   cancelled : (i : ℕ) {a b : ℕ} → i ≤ n → Cong (suc n) (a * g ^ i) (b * g ^ i) → Cong (suc n) a b
   cancelled i {a} {b} i≤n h = cong-trans (cong-sym (whole a)) (cong-trans (cong-mul h cong-refl) (whole b))
     where
+      full-power : g ^ i * g ^ (n - i) ≡ g ^ n
+      full-power = sym (pow-add g i (n - i)) ∙ ap (λ (k : ℕ). g ^ k) (add-sub-of-le i≤n)
+
       whole : (x : ℕ) → Cong (suc n) (x * g ^ i * g ^ (n - i)) x
       whole x =
-          cong-trans (cong-eq (mul-assoc x (g ^ i) (g ^ (n - i)) ∙ ap (λ (k : ℕ). x * k) (sym (pow-add g i (n - i)) ∙ ap (λ (k : ℕ). g ^ k) (add-sub-of-le i≤n))))
+          cong-trans (cong-eq (mul-assoc x (g ^ i) (g ^ (n - i)) ∙ ap (λ (k : ℕ). x * k) full-power))
           (cong-trans (cong-mul cong-refl full) (cong-eq (mul-one x)))
 
   -- no power by less than n is 0

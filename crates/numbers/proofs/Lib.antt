@@ -8,3 +8,4 @@ pub mod Pigeonhole
 pub mod Power
 pub mod Roots
 pub mod Table
+pub mod Trial

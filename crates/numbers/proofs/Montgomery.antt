@@ -15,10 +15,11 @@ factor-undone r s {m} {a} h a< =
     (cong-trans (cong-eq (mul-assoc a r s)) (cong-trans (cong-mul cong-refl h) (cong-eq (mul-one a)))))
     a<
 
--- what P and rInv are
+-- what P is
 pub P-value : P ≡ 2 ^ 64 - 2 ^ 32 + 1
 P-value = refl
 
+-- what rInv is
 pub rInv-value : rInv ≡ P - 2 ^ 32
 rInv-value = refl
 

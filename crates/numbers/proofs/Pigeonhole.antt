@@ -11,14 +11,17 @@ use lib.Arith.{lt-of-le-ne}
 swap : (a b x : ℕ) → ℕ
 swap a b x = ite (ℕ-discrete x a) b (ite (ℕ-discrete x b) a x)
 
+-- a goes to b
 swap-first : (a b : ℕ) → swap a b a ≡ b
 unfolding swap
 swap-first a b = if-pos (ℕ-discrete a a) refl b (ite (ℕ-discrete a b) a a)
 
+-- a third number stays
 swap-other : (a b x : ℕ) → x ≢ a → x ≢ b → swap a b x ≡ x
 unfolding swap
 swap-other a b x x≢a x≢b = if-neg (ℕ-discrete x a) x≢a b (ite (ℕ-discrete x b) a x) ∙ if-neg (ℕ-discrete x b) x≢b a x
 
+-- b goes to a
 swap-second : (a b : ℕ) → swap a b b ≡ a
 unfolding swap
 swap-second a b =
@@ -35,31 +38,56 @@ swap-cases F a b x first second other =
 swap-swap : (a b x : ℕ) → swap a b (swap a b x) ≡ x
 swap-swap a b x = swap-cases (λ x y. swap a b y ≡ x) a b x (swap-second a b) (swap-first a b) (swap-other a b x)
 
+-- so no two numbers go to the same
 swap-injective : (a b x y : ℕ) → swap a b x ≡ swap a b y → x ≡ y
 swap-injective a b x y e = sym (swap-swap a b x) ∙ ap (swap a b) e ∙ swap-swap a b y
 
 -- where the greatest number m changes places with v, all but v come below m
 swap-below : (m v x : ℕ) → v < suc m → x < suc m → x ≢ v → swap m v x < m
 swap-below m v x v< x< x≢v =
-    lt-of-le-ne (le-of-suc-le-suc (swap-cases (λ x y. x < suc m → y < suc m) m v x (λ _. v<) (λ _. lt-suc-self m) (λ _ _ h. h) x<))
+    lt-of-le-ne
+    (le-of-suc-le-suc (swap-cases (λ x y. x < suc m → y < suc m) m v x (λ _. v<) (λ _. lt-suc-self m) (λ _ _ h. h) x<))
     (λ e. x≢v (swap-injective m v x v (e ∙ sym (swap-second m v))))
 
--- every y below n is the image of some k below n
-pub reaches : (n : ℕ) (f : ℕ → ℕ) → ((k : ℕ) → k < n → f k < n) → ((i j : ℕ) → i < n → j < n → f i ≡ f j → i ≡ j) → (y : ℕ) → y < n → (k : ℕ) × (k < n) × (f k ≡ y)
-reaches zero f into inj y y< = absurd (not-suc-le-zero y<)
-reaches (suc m) f into inj y y< =
+-- f maps the numbers below n into themselves
+abbrev pub Into : (n : ℕ) (f : ℕ → ℕ) → Type 0
+Into n f = (k : ℕ) → k < n → f k < n
+
+-- f maps no two numbers below n to the same
+abbrev pub Apart : (n : ℕ) (f : ℕ → ℕ) → Type 0
+Apart n f = (i j : ℕ) → i < n → j < n → f i ≡ f j → i ≡ j
+
+-- some number below n has the image y
+abbrev pub Reached : (n : ℕ) (f : ℕ → ℕ) (y : ℕ) → Type 0
+Reached n f y = (k : ℕ) × (k < n) × (f k ≡ y)
+
+-- the image of the last number m changes places with m: what is left is a function below m
+fewer : (m : ℕ) (f : ℕ → ℕ) (k : ℕ) → ℕ
+fewer m f k = swap m (f m) (f k)
+
+-- it maps into itself
+fewer-into : (m : ℕ) (f : ℕ → ℕ) → Into (suc m) f → Apart (suc m) f → Into m (fewer m f)
+unfolding fewer
+fewer-into m f into apart k k< =
+    swap-below m (f m) (f k) (into m (lt-suc-self m)) (into k (le-step k<))
+    (λ e. ne-of-lt k< (apart k m (le-step k<) (lt-suc-self m) e))
+
+-- it maps no two numbers to the same
+fewer-apart : (m : ℕ) (f : ℕ → ℕ) → Apart (suc m) f → Apart m (fewer m f)
+unfolding fewer
+fewer-apart m f apart i j i< j< e = apart i j (le-step i<) (le-step j<) (swap-injective m (f m) (f i) (f j) e)
+
+-- and what it reaches, f reached
+fewer-reached : (m : ℕ) (f : ℕ → ℕ) (y : ℕ) → Reached m (fewer m f) (swap m (f m) y) → Reached (suc m) f y
+unfolding fewer
+fewer-reached m f y r = (r .0, le-step (r .1), swap-injective m (f m) (f (r .0)) y (r .2))
+
+-- every number below n is reached
+pub reaches : (n : ℕ) (f : ℕ → ℕ) → Into n f → Apart n f → (y : ℕ) → y < n → Reached n f y
+reaches zero f into apart y y< = absurd (not-suc-le-zero y<)
+reaches (suc m) f into apart y y< =
     by-cases (ℕ-discrete y (f m)) (λ e. (m, lt-suc-self m, sym e))
     (λ y≢v.
-    let r =
-    reaches m (λ k. swap m v (f k))
-    (λ k k<. swap-below m v (f k) v< (into k (le-step k<)) (λ e. ne-of-lt k< (inj k m (le-step k<) (lt-suc-self m) e)))
-    (λ i j i< j< e. inj i j (le-step i<) (le-step j<) (swap-injective m v (f i) (f j) e))
-    (swap m v y) (swap-below m v y v< y< y≢v)
-    in
-    (r .0, le-step (r .1), swap-injective m v (f (r .0)) y (r .2)))
-  where
-    v : ℕ
-    v = f m
-
-    v< : v < suc m
-    v< = into m (lt-suc-self m)
+    fewer-reached m f y
+    (reaches m (fewer m f) (fewer-into m f into apart) (fewer-apart m f apart) (swap m (f m) y)
+    (swap-below m (f m) y (into m (lt-suc-self m)) y< y≢v)))

@@ -9,8 +9,8 @@ use lib.ListN.{replicate}
 use Rattle.numbers.specs.Modulus.{P, rootExponent}
 use Rattle.numbers.specs.Power.{powMod}
 use Rattle.numbers.proofs.Congruence.{mod-pow-pow}
-use Rattle.numbers.proofs.Divisors.{trial}
 use Rattle.numbers.proofs.Generator.{Certificate, power-returns}
+use Rattle.numbers.proofs.Trial.{trial}
 
 -- the primes of P - 1
 factors : List ℕ
