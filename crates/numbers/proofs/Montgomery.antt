@@ -1,7 +1,7 @@
 -- A raw word is a value times 2^64 modulo P; rInv leads back.
 -- Assumes nothing.
 use mathlib.Core.Path.{_≡_, refl}
-use Prim.Native.Nat.{ℕ, _*_, _%_, _^_, _<_}
+use Prim.Native.Nat.{ℕ, _+_, _-_, _*_, _%_, _^_, _<_}
 use native.Mathlib.Nat.{mul-assoc, mul-one}
 use Rattle.numbers.specs.Congruence.{Cong}
 use Rattle.numbers.specs.Modulus.{P, rInv}
@@ -14,6 +14,14 @@ factor-undone r s {m} {a} h a< =
     (cong-trans (cong-mul cong-mod cong-refl)
     (cong-trans (cong-eq (mul-assoc a r s)) (cong-trans (cong-mul cong-refl h) (cong-eq (mul-one a)))))
     a<
+
+-- what P is
+pub P-value : P ≡ 2 ^ 64 - 2 ^ 32 + 1
+P-value = refl
+
+-- what rInv is
+pub rInv-value : rInv ≡ P - 2 ^ 32
+rInv-value = refl
 
 -- rInv is 2^(-64) modulo P
 pub rInv-inverse : 2 ^ 64 * rInv % P ≡ 1
