@@ -46,8 +46,8 @@ pub record Form (m : ℕ) (s row : List ℕ) (w : ℕ) : Type 0 where
   pub cong : Cong m w (dot row s 0)
 
 -- a word itself
-pub form-input : {m : ℕ} {s : List ℕ} (j : ℕ) → Form m s (unit j) (getD s j 0)
-form-input {s = s} j = record { cong = cong-eq (sym (dot-unit j s 0 ∙ ap (λ (k : ℕ). getD s k 0) (zero-add j))) }
+pub form-input : (m : ℕ) (s : List ℕ) (j : ℕ) → Form m s (unit j) (getD s j 0)
+form-input m s j = record { cong = cong-eq (sym (dot-unit j s 0 ∙ ap (λ (k : ℕ). getD s k 0) (zero-add j))) }
 
 -- a word that is congruent to such a word
 pub form-cong : {m : ℕ} {s a : List ℕ} {w x : ℕ} → Cong m w x → Form m s a x → Form m s a w
