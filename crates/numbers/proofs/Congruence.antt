@@ -16,6 +16,7 @@ use native.Mathlib.Nat.{
   mul-assoc,
   mul-comm,
   mul-mul-mul-comm,
+  mul-one,
   mul-suc,
   mul-zero,
   pow-suc,
@@ -40,6 +41,11 @@ pow-pow a j (suc k) =
 pub mul-pow : (a b k : ℕ) → (a * b) ^ k ≡ a ^ k * b ^ k
 mul-pow a b zero = rw (pow-zero (a * b), pow-zero a, pow-zero b)
 mul-pow a b (suc k) = rw (pow-suc (a * b) k, pow-suc a k, pow-suc b k, mul-pow a b k) (mul-mul-mul-comm (a ^ k) (b ^ k) a b)
+
+-- a power of 1
+pub one-pow : (k : ℕ) → 1 ^ k ≡ 1
+one-pow zero = pow-zero 1
+one-pow (suc k) = pow-suc 1 k ∙ mul-one (1 ^ k) ∙ one-pow k
 
 -- Remainders
 
@@ -70,6 +76,10 @@ mod-pow a (suc k) m =
     rw (pow-suc (a % m) k, pow-suc a k)
     (mod-mul-right ((a % m) ^ k) a m ∙ sym (mod-mul-left ((a % m) ^ k) a m)
     ∙ ap (λ (n : ℕ). n * a % m) (mod-pow a k m) ∙ mod-mul-left (a ^ k) a m)
+
+-- a power of a reduced power
+pub mod-pow-pow : (a j k m : ℕ) → (a ^ j % m) ^ k % m ≡ a ^ (j * k) % m
+mod-pow-pow a j k m = mod-pow (a ^ j) k m ∙ ap (λ (n : ℕ). n % m) (pow-pow a j k)
 
 -- Congruence
 
@@ -120,6 +130,10 @@ cong-mul {m} {a} {b} {c} {d} h k = record { same = mod-mul a c m ∙ rw (h .same
 -- powers of congruent numbers
 pub cong-pow : {m a b : ℕ} (k : ℕ) → Cong m a b → Cong m (a ^ k) (b ^ k)
 cong-pow {m} {a} {b} k h = record { same = sym (mod-pow a k m) ∙ ap (λ (n : ℕ). n ^ k % m) (h .same) ∙ mod-pow b k m }
+
+-- powers of a number that is congruent to 1
+pub cong-one-pow : {m a : ℕ} (k : ℕ) → Cong m a 1 → Cong m (a ^ k) 1
+cong-one-pow k h = cong-trans (cong-pow k h) (cong-eq (one-pow k))
 
 -- a number that was added on both sides may be taken away
 pub cong-add-cancel : {m a b : ℕ} (c : ℕ) → Cong m (a + c) (b + c) → Cong m a b

@@ -9,6 +9,7 @@ use native.Mathlib.Nat.{
   le-of-suc-le-suc,
   le-refl,
   mul-add,
+  mul-comm,
   mul-zero,
   not-suc-le-zero,
   suc-add,
@@ -39,7 +40,8 @@ getD-tab₀ n f k h = getD-tab n 0 f k h ∙ ap f (zero-add k)
 -- functions that agree on the range make the same list
 pub tab-same : (n i : ℕ) {f g : ℕ → ℕ} → ((c : ℕ) → i ≤ c → c < i + n → f c ≡ g c) → tab n i f ≡ tab n i g
 tab-same zero i e = refl
-tab-same (suc n) i e = ap₂ _∷_ (e i (le-refl i) (omega arith)) (tab-same n (suc i) λ c low high. e c (omega arith) (omega arith))
+tab-same (suc n) i e =
+    ap₂ _∷_ (e i (le-refl i) (omega arith)) (tab-same n (suc i) λ c low high. e c (omega arith) (omega arith))
 
 -- a list whose entries are the function's values is the list that it makes
 pub tab-unique : (xs : List ℕ) {n : ℕ} (f : ℕ → ℕ) → length xs ≡ n → ((k : ℕ) → k < n → getD xs k 0 ≡ f k) → tab n 0 f ≡ xs
@@ -73,8 +75,13 @@ pub total-mul : (n i k : ℕ) (f : ℕ → ℕ) → total n i (λ c. k * f c) �
 total-mul zero i k f = sym (mul-zero k)
 total-mul (suc n) i k f = ap (λ (s : ℕ). k * f i + s) (total-mul n (suc i) k f) ∙ sym (mul-add k (f i) (total n (suc i) f))
 
+-- the same with the factor on the right
+pub total-mul-right : (n i k : ℕ) (f : ℕ → ℕ) → total n i (λ c. f c * k) ≡ total n i f * k
+total-mul-right n i k f = total-same n i (λ c low high. mul-comm (f c) k) ∙ total-mul n i k f ∙ mul-comm k (total n i f)
+
 -- a sum over rows of sums over columns is the sum over columns of sums over rows
-pub total-exchange : (n m i j : ℕ) (f : ℕ → ℕ → ℕ) → total n i (λ a. total m j (λ b. f a b)) ≡ total m j (λ b. total n i (λ a. f a b))
+pub total-exchange : (n m i j : ℕ) (f : ℕ → ℕ → ℕ)
+    → total n i (λ a. total m j (λ b. f a b)) ≡ total m j (λ b. total n i (λ a. f a b))
 total-exchange zero m i j f = sym (total-zero m j)
 total-exchange (suc n) m i j f =
     ap (λ (s : ℕ). total m j (f i) + s) (total-exchange n m (suc i) j f)

@@ -4,4 +4,5 @@ pub mod Congruence
 pub mod Linear
 pub mod Lists
 pub mod Modulus
+pub mod Power
 pub mod Table
