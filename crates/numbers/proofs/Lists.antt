@@ -87,6 +87,11 @@ total-exchange (suc n) m i j f =
     ap (λ (s : ℕ). total m j (f i) + s) (total-exchange n m (suc i) j f)
     ∙ sym (total-add m j (f i) (λ b. total n (suc i) (λ a. f a b)))
 
+-- larger summands have the larger sum
+pub total-le : (n i : ℕ) {f g : ℕ → ℕ} → ((c : ℕ) → f c ≤ g c) → total n i f ≤ total n i g
+total-le zero i h = zero-le
+total-le (suc n) i h = omega (arith, h i, total-le n (suc i) h)
+
 -- a sum of n numbers that are at most k
 pub total-bound : (n i k : ℕ) {f : ℕ → ℕ} → ((c : ℕ) → f c ≤ k) → total n i f ≤ n * k
 total-bound zero i k h = zero-le
