@@ -1,5 +1,7 @@
 -- The laws of this crate's definitions.
-pub mod BytewiseLaws
+pub mod BytewiseBelow
+pub mod BytewiseUndone
+pub mod DigitLaws
 pub mod FieldLaws
 pub mod JudgeLaws
 pub mod LookupLaws

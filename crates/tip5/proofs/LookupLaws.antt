@@ -9,7 +9,8 @@ use Rattle.numbers.specs.Table.{each}
 use Rattle.numbers.proofs.Table.{each-at}
 use Rattle.tip5.specs.Inverse.{invLookup, invLookupByte}
 use Rattle.tip5.specs.Round.{lookup, lookupByte}
-use Rattle.tip5.proofs.BytewiseLaws.{Bytes, Ends, bytewise-below, bytewise-undone, ends-bytes}
+use Rattle.tip5.proofs.BytewiseBelow.{Ends, bytewise-below, ends-bytes}
+use Rattle.tip5.proofs.BytewiseUndone.{Bytes, bytewise-undone}
 
 -- Bytes
 
