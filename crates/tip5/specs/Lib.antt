@@ -2,6 +2,7 @@
 pub mod Constants
 pub mod Element
 pub mod Field
+pub mod Inverse
 pub mod Judge
 pub mod Permutation
 pub mod Reduced
