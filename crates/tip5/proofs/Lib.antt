@@ -1,4 +1,5 @@
 -- The laws of this crate's definitions.
+pub mod AnswerLaws
 pub mod BytewiseBelow
 pub mod BytewiseLaws
 pub mod BytewiseUndone
@@ -8,6 +9,7 @@ pub mod FieldLaws
 pub mod HalvesLaws
 pub mod JudgeLaws
 pub mod LookupLaws
+pub mod MendedLaws
 pub mod ReducedLaws
 pub mod RoundLaws
 pub mod SboxLaws
