@@ -1,9 +1,13 @@
 -- The laws of this crate's definitions.
 pub mod BytewiseBelow
 pub mod BytewiseUndone
+pub mod CirculantLaws
 pub mod DigitLaws
 pub mod FieldLaws
+pub mod FieldUndone
 pub mod JudgeLaws
+pub mod LayersUndone
 pub mod LookupLaws
 pub mod ReducedLaws
 pub mod RoundLaws
+pub mod RoundTrip
