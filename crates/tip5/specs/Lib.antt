@@ -7,3 +7,4 @@ pub mod Judge
 pub mod Permutation
 pub mod Reduced
 pub mod Round
+pub mod Tables
