@@ -3,13 +3,17 @@ pub mod AnswerLaws
 pub mod BytewiseBelow
 pub mod BytewiseLaws
 pub mod BytewiseUndone
+pub mod CirculantLaws
 pub mod ConstantLaws
 pub mod DigitLaws
 pub mod FieldLaws
+pub mod FieldUndone
 pub mod HalvesLaws
 pub mod JudgeLaws
+pub mod LayersUndone
 pub mod LookupLaws
 pub mod MendedLaws
 pub mod ReducedLaws
 pub mod RoundLaws
+pub mod RoundTrip
 pub mod SboxLaws

@@ -1,0 +1,52 @@
+-- What undoes a sum and a power on raw words below P.
+-- Assumes nothing.
+use mathlib.Core.Path.{_≡_, sym, ap, _∙_}
+use Prim.Native.Nat.{ℕ, _+_, _-_, _*_, _%_, _^_, _<_}
+use native.Mathlib.Nat.{mod-lt}
+use native.Mathlib.Omega.{arith}
+use lib.Dec.{lit<}
+use Rattle.numbers.specs.Congruence.{Cong}
+use Rattle.numbers.specs.Modulus.{P, rootExponent}
+use Rattle.numbers.proofs.Congruence.{cong-add, cong-eq, cong-mod, cong-multiple, cong-refl, cong-remainder, cong-trans}
+use Rattle.numbers.proofs.Roots.{root-then-seventh, seventh-then-root}
+use Rattle.tip5.specs.Field.{add, power, rawOf, sub, valueOf}
+use Rattle.tip5.proofs.FieldLaws.{rawOf-mod, rawOf-valueOf, valueOf-below, valueOf-rawOf}
+
+-- Sums
+
+pub sub-add : {a b : ℕ} → a < P → b < P → sub (add a b) b ≡ a
+unfolding sub add
+sub-add {a} {b} ha hb =
+    cong-remainder (cong-trans (cong-add cong-mod cong-refl) (cong-trans (cong-eq (whole hb)) (cong-multiple 1))) ha
+  where
+    whole : b < P → a + b + (P - b) ≡ a + 1 * P
+    whole h = omega arith
+
+pub add-sub : {a b : ℕ} → a < P → b < P → add (sub a b) b ≡ a
+unfolding sub add
+add-sub {a} {b} ha hb =
+    cong-remainder (cong-trans (cong-add cong-mod cong-refl) (cong-trans (cong-eq (whole hb)) (cong-multiple 1))) ha
+  where
+    whole : b < P → a + (P - b) + b ≡ a + 1 * P
+    whole h = omega arith
+
+-- Powers
+
+-- the value of any number's raw word
+valueOf-rawOf-mod : (v : ℕ) → valueOf (rawOf v) ≡ v % P
+valueOf-rawOf-mod v = ap valueOf (sym (rawOf-mod v)) ∙ valueOf-rawOf (mod-lt v (lit< tt))
+
+-- two powers that lead back on values do so on raw words
+power-power : (j k : ℕ) → ((x : ℕ) → x < P → (x ^ j % P) ^ k % P ≡ x) → {a : ℕ} → a < P → power (power a j) k ≡ a
+unfolding power
+power-power j k back {a} h =
+    ap (λ (v : ℕ). rawOf (v ^ k)) (valueOf-rawOf-mod (valueOf a ^ j))
+    ∙ sym (rawOf-mod ((valueOf a ^ j % P) ^ k))
+    ∙ ap rawOf (back (valueOf a) (valueOf-below a))
+    ∙ rawOf-valueOf h
+
+pub root-seventh : {a : ℕ} → a < P → power (power a 7) rootExponent ≡ a
+root-seventh = power-power 7 rootExponent seventh-then-root
+
+pub seventh-root : {a : ℕ} → a < P → power (power a rootExponent) 7 ≡ a
+seventh-root = power-power rootExponent 7 root-then-seventh
