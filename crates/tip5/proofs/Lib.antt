@@ -13,3 +13,4 @@ pub mod MendedLaws
 pub mod ReducedLaws
 pub mod RoundLaws
 pub mod SboxLaws
+pub mod TraceLaws
