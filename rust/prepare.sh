@@ -26,3 +26,13 @@ need_probe() {
     VARDRAKUP_PROBE=$root/target/staticlib
     export VARDRAKUP_PROBE
 }
+
+# The same for the machine at hand, for what has to be linked with Rust.
+need_native_probe() {
+    if [ -z "${VARDRAKUP_PROBE:-}" ] && [ "$(uname -m)" != x86_64 ]; then
+        "$here/native-probe"
+        VARDRAKUP_PROBE=$root/target/native
+        export VARDRAKUP_PROBE
+    fi
+    need_probe
+}

@@ -51,7 +51,10 @@ pub fn rust_calls(calls: &[Call]) -> String {
             match param {
                 Param::Number(kind) => {
                     types.push(rust_type(kind).to_string());
-                    values.push(format!("args[{i}].word as {}", rust_type(kind)));
+                    values.push(match rust_type(kind) {
+                        "u64" => format!("args[{i}].word"),
+                        narrow => format!("args[{i}].word as {narrow}"),
+                    });
                 }
                 Param::Place(item) => {
                     types.push(format!("*mut {}", rust_type(item)));

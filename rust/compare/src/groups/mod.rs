@@ -12,11 +12,14 @@ use cases::Random;
 /// Where the cases of a call go.
 pub type Push<'a> = &'a mut dyn FnMut(Case);
 
-/// Makes the cases of one call from random numbers and the number of cases asked for.
+/// Makes cases from random numbers and the number of cases asked for.
+type Make = fn(&mut Random, usize, Push);
+
+/// A call, and what makes its cases.
 pub struct Maker {
     pub group: &'static str,
     pub call: &'static str,
-    pub make: fn(&mut Random, usize, Push),
+    pub make: Make,
 }
 
 impl Maker {
@@ -33,10 +36,7 @@ pub fn all() -> Vec<Maker> {
 }
 
 /// Makers of one group.
-fn group<const N: usize>(
-    group: &'static str,
-    makers: [(&'static str, fn(&mut Random, usize, Push)); N],
-) -> Vec<Maker> {
+fn group<const N: usize>(group: &'static str, makers: [(&'static str, Make); N]) -> Vec<Maker> {
     let maker = |(call, make)| Maker { group, call, make };
     makers.into_iter().map(maker).collect()
 }
