@@ -1,1 +1,12 @@
 -- The laws of numbers.
+pub mod Congruence
+pub mod Divisors
+pub mod Generator
+pub mod Linear
+pub mod Lists
+pub mod Montgomery
+pub mod Pigeonhole
+pub mod Power
+pub mod Roots
+pub mod Table
+pub mod Trial

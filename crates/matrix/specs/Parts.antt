@@ -1,0 +1,37 @@
+-- The matrices of the parts that the product is made of. Modulo 2^64, 2^64 - 1 stands for -1.
+use mathlib.Core.List.{List}
+use Prim.Native.Nat.{ℕ, _+_, _-_, _*_, _%_, _^_}
+use lib.ListN.{getD}
+use Rattle.numbers.specs.Lists.{tab}
+use Rattle.numbers.specs.Linear.{unit, _⊕_, _⊛_, rows}
+use Rattle.matrix.specs.Column.{mdsColumn}
+
+-- the circulant's entry in row r and column c
+abbrev pub entry : (r c : ℕ) → ℕ
+entry r c = getD mdsColumn ((16 + r - c) % 16) 0
+
+-- each word and n times the word eight places on, 16 words to 8
+abbrev pub foldMatrix : ℕ → List (List ℕ)
+foldMatrix n = rows 8 0 (λ r. unit r ⊕ n ⊛ unit (8 + r))
+
+-- row r of the circulant, its left half and n times its right half added, times 8
+abbrev pub foldedRow : (n r : ℕ) → List ℕ
+foldedRow n r = tab 8 0 (λ c. 8 * (entry r c + n * entry r (8 + c)))
+
+-- sums and differences of words eight places apart
+abbrev pub sumsMatrix : List (List ℕ)
+sumsMatrix = foldMatrix 1
+
+abbrev pub differencesMatrix : List (List ℕ)
+differencesMatrix = foldMatrix (2 ^ 64 - 1)
+
+-- eight sums to the eight words of the cyclic half
+abbrev pub cyclicMatrix : List (List ℕ)
+cyclicMatrix = rows 8 0 (λ r. foldedRow 1 r)
+
+-- eight differences to words 0, 2, 4, 6 and to words 1, 3, 5, 7 of the negacyclic half
+abbrev pub evenMatrix : List (List ℕ)
+evenMatrix = rows 4 0 (λ k. foldedRow (2 ^ 64 - 1) (2 * k))
+
+abbrev pub oddMatrix : List (List ℕ)
+oddMatrix = rows 4 0 (λ k. foldedRow (2 ^ 64 - 1) (2 * k + 1))

@@ -1,0 +1,93 @@
+-- The laws of a list that is made by a function of its places, and of sums over a range.
+-- Assumes nothing.
+use mathlib.Core.Path.{_≡_, refl, sym, ap, ap₂, _∙_}
+use mathlib.Core.List.{List, _∷_}
+use Prim.Native.Nat.{ℕ, zero, suc, _+_, _*_, _≤_, _<_, zero-le}
+use native.Mathlib.Nat.{
+  add-suc,
+  add-zero,
+  le-of-suc-le-suc,
+  le-refl,
+  mul-add,
+  mul-comm,
+  mul-zero,
+  not-suc-le-zero,
+  suc-add,
+  zero-add,
+}
+use native.Mathlib.Omega.{arith}
+use lib.ListN.{length, getD}
+use lib.Seq.{ext-getD}
+use Rattle.numbers.specs.Lists.{tab, total}
+
+-- Lists
+
+-- as many entries as asked for
+pub length-tab : (n i : ℕ) (f : ℕ → ℕ) → length (tab n i f) ≡ n
+length-tab zero i f = refl
+length-tab (suc n) i f = ap suc (length-tab n (suc i) f)
+
+-- the entry at place k
+pub getD-tab : (n i : ℕ) (f : ℕ → ℕ) (k : ℕ) → k < n → getD (tab n i f) k 0 ≡ f (i + k)
+getD-tab zero i f k h = absurd (not-suc-le-zero h)
+getD-tab (suc n) i f zero h = ap f (sym (add-zero i))
+getD-tab (suc n) i f (suc k) h = getD-tab n (suc i) f k (le-of-suc-le-suc h) ∙ ap f (suc-add i k ∙ sym (add-suc i k))
+
+-- the same where the places are counted from 0
+pub getD-tab₀ : (n : ℕ) (f : ℕ → ℕ) (k : ℕ) → k < n → getD (tab n 0 f) k 0 ≡ f k
+getD-tab₀ n f k h = getD-tab n 0 f k h ∙ ap f (zero-add k)
+
+-- functions that agree on the range make the same list
+pub tab-same : (n i : ℕ) {f g : ℕ → ℕ} → ((c : ℕ) → i ≤ c → c < i + n → f c ≡ g c) → tab n i f ≡ tab n i g
+tab-same zero i e = refl
+tab-same (suc n) i e =
+    ap₂ _∷_ (e i (le-refl i) (omega arith)) (tab-same n (suc i) λ c low high. e c (omega arith) (omega arith))
+
+-- a list whose entries are the function's values is the list that it makes
+pub tab-unique : (xs : List ℕ) {n : ℕ} (f : ℕ → ℕ) → length xs ≡ n → ((k : ℕ) → k < n → getD xs k 0 ≡ f k) → tab n 0 f ≡ xs
+tab-unique xs {n} f e h =
+    ext-getD 0 (tab n 0 f) xs (length-tab n 0 f ∙ sym e)
+    λ k k<. let l : k < n = rw length-tab at k< in getD-tab₀ n f k l ∙ sym (h k l)
+
+-- so every list is made by the function that reads its entries
+pub tab-getD : (xs : List ℕ) {n : ℕ} → length xs ≡ n → tab n 0 (λ k. getD xs k 0) ≡ xs
+tab-getD xs e = tab-unique xs (λ k. getD xs k 0) e λ k h. refl
+
+-- Sums
+
+-- functions that agree on the range have the same sum
+pub total-same : (n i : ℕ) {f g : ℕ → ℕ} → ((c : ℕ) → i ≤ c → c < i + n → f c ≡ g c) → total n i f ≡ total n i g
+total-same zero i e = refl
+total-same (suc n) i e = ap₂ _+_ (e i (le-refl i) (omega arith)) (total-same n (suc i) λ c low high. e c (omega arith) (omega arith))
+
+-- the sum of nothing but zeros
+pub total-zero : (n i : ℕ) → total n i (λ c. 0) ≡ 0
+total-zero zero i = refl
+total-zero (suc n) i = zero-add (total n (suc i) (λ c. 0)) ∙ total-zero n (suc i)
+
+-- a sum of sums
+pub total-add : (n i : ℕ) (f g : ℕ → ℕ) → total n i (λ c. f c + g c) ≡ total n i f + total n i g
+total-add zero i f g = refl
+total-add (suc n) i f g = omega (arith, total-add n (suc i) f g)
+
+-- a common factor
+pub total-mul : (n i k : ℕ) (f : ℕ → ℕ) → total n i (λ c. k * f c) ≡ k * total n i f
+total-mul zero i k f = sym (mul-zero k)
+total-mul (suc n) i k f = ap (λ (s : ℕ). k * f i + s) (total-mul n (suc i) k f) ∙ sym (mul-add k (f i) (total n (suc i) f))
+
+-- the same with the factor on the right
+pub total-mul-right : (n i k : ℕ) (f : ℕ → ℕ) → total n i (λ c. f c * k) ≡ total n i f * k
+total-mul-right n i k f = total-same n i (λ c low high. mul-comm (f c) k) ∙ total-mul n i k f ∙ mul-comm k (total n i f)
+
+-- a sum over rows of sums over columns is the sum over columns of sums over rows
+pub total-exchange : (n m i j : ℕ) (f : ℕ → ℕ → ℕ)
+    → total n i (λ a. total m j (λ b. f a b)) ≡ total m j (λ b. total n i (λ a. f a b))
+total-exchange zero m i j f = sym (total-zero m j)
+total-exchange (suc n) m i j f =
+    ap (λ (s : ℕ). total m j (f i) + s) (total-exchange n m (suc i) j f)
+    ∙ sym (total-add m j (f i) (λ b. total n (suc i) (λ a. f a b)))
+
+-- a sum of n numbers that are at most k
+pub total-bound : (n i k : ℕ) {f : ℕ → ℕ} → ((c : ℕ) → f c ≤ k) → total n i f ≤ n * k
+total-bound zero i k h = zero-le
+total-bound (suc n) i k h = omega (arith, h i, total-bound n (suc i) k h)

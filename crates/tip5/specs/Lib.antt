@@ -1,0 +1,8 @@
+-- What the calls of this crate answer.
+pub mod Constants
+pub mod Element
+pub mod Field
+pub mod Judge
+pub mod Permutation
+pub mod Reduced
+pub mod Round

@@ -1,0 +1,8 @@
+// The hash function Tip5: its field, its permutation and the way back.
+pub mod b_field_element;
+mod field;
+pub mod judge;
+mod layers;
+pub mod permutation;
+pub mod refusal;
+mod tables;

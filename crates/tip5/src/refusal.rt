@@ -1,0 +1,9 @@
+// The refusals' numbers, as every call answers them: 0 for none.
+
+pub const NONE: u8 = 0;
+// A raw word is not below P.
+pub const BAD_WORD: u8 = 1;
+// A slice does not have the length that it must have.
+pub const WRONG_LENGTH: u8 = 2;
+// A round number over 4.
+pub const NO_SUCH_ROUND: u8 = 8;
