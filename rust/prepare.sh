@@ -36,3 +36,10 @@ need_native_probe() {
     fi
     need_probe
 }
+
+# One line of a table of counts: a name, ours, theirs and their ratio. Ours is - where it is not there.
+row() { # NAME OURS THEIRS
+    ratio=-
+    [ "$2" = - ] || ratio=$(awk -v ours="$2" -v theirs="$3" 'BEGIN { printf "%.3f", ours / theirs }')
+    printf '%-20s %10s %10s %7s\n' "$1" "$2" "$3" "$ratio"
+}

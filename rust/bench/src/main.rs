@@ -12,10 +12,7 @@ use options::Options;
 use std::process::ExitCode;
 
 fn main() -> ExitCode {
-    let options = match Options::read(std::env::args().skip(1)) {
-        Ok(options) => options,
-        Err(said) => return said.tell(),
-    };
+    let options = Options::read();
     let done = match options.iterations {
         Some(iterations) => timing::repeat(&options.only, iterations),
         None => timing::table(&options),

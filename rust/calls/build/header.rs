@@ -31,9 +31,8 @@ fn call(line: &str) -> Option<Call> {
     let mut params = vec![];
     let mut words = rest.strip_suffix(");")?.split(", ").peekable();
     while let Some(word) = words.next() {
-        let (kind, pointer) = match word.rsplit_once(' ')? {
-            (kind, name) => (kind, name.starts_with('*')),
-        };
+        let (kind, name) = word.rsplit_once(' ')?;
+        let pointer = name.starts_with('*');
         let item = kind.strip_prefix("const ").unwrap_or(kind).to_string();
         let length = pointer && words.next_if(|next| next.starts_with("size_t ")).is_some();
         params.push(match (pointer, length) {

@@ -2,7 +2,21 @@
 
 use crate::{Random, words};
 use oracle::field::{self, P};
-use oracle::{State, inverse, permutation};
+use oracle::{State, inverse, permutation, sponge};
+
+/// The starts of a sponge, the plainest states, and one whose row sum 0 is exactly p in round 0.
+pub fn known() -> [State; 5] {
+    let mut row_sum_p = [0; 16];
+    row_sum_p[8] = 16255091180704708378;
+    row_sum_p[15] = 264353247297664213;
+    [
+        sponge::variable_length(),
+        sponge::fixed_length(),
+        [1; 16],
+        [P - 1; 16],
+        row_sum_p,
+    ]
+}
 
 /// Words as chance has them.
 pub fn random(random: &mut Random) -> State {

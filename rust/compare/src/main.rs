@@ -12,10 +12,7 @@ use runner::Runner;
 use std::process::ExitCode;
 
 fn main() -> ExitCode {
-    let options = match Options::read(std::env::args().skip(1)) {
-        Ok(options) => options,
-        Err(said) => return said.tell(),
-    };
+    let options = Options::read();
     let ours = match calls::Ours::open() {
         Ok(ours) => ours,
         Err(reason) => {

@@ -33,8 +33,7 @@ const EXPONENTS: [u64; 8] = [
     u64::MAX,
 ];
 
-/// Cases of each call: as many at the edges, and as many as chance has them.
-const AT_EDGES: usize = 13;
+/// Cases of each call besides one at each edge.
 const BY_CHANCE: usize = 12;
 
 /// One stored case.
@@ -83,19 +82,17 @@ fn cases() -> Vec<Case> {
     let random = &mut Random::new(SEED, "vectors of the field");
     let mut cases = vec![];
     for call in 0..8 {
-        for i in 0..AT_EDGES + BY_CHANCE {
-            let by_chance = i >= AT_EDGES;
-            let a = if by_chance {
-                words::good(random)
-            } else {
-                EDGES[i]
-            };
+        for a in EDGES {
             let b = match call {
                 0..=3 => 0,
-                7 if !by_chance => random.pick(&EXPONENTS),
-                _ if by_chance => words::good(random),
+                7 => random.pick(&EXPONENTS),
                 _ => random.pick(&EDGES),
             };
+            cases.push(case(call, a, b));
+        }
+        for _ in 0..BY_CHANCE {
+            let a = words::good(random);
+            let b = if call < 4 { 0 } else { words::good(random) };
             cases.push(case(call, a, b));
         }
     }

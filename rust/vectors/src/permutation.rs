@@ -3,8 +3,7 @@
 
 use crate::{SEED, rattle};
 use cases::{Random, states};
-use oracle::field::P;
-use oracle::{State, permutation, sponge};
+use oracle::{State, permutation};
 
 pub fn file() -> String {
     let states = states();
@@ -27,16 +26,7 @@ pub fn file() -> String {
 /// Twenty-four states: the starts, worked ones, edges, each round's rare path, and chance.
 fn states() -> Vec<State> {
     let random = &mut Random::new(SEED, "vectors of the permutation");
-    let mut row_sum_p = [0; 16];
-    row_sum_p[8] = 16255091180704708378;
-    row_sum_p[15] = 264353247297664213;
-    let mut states = vec![
-        sponge::variable_length(),
-        sponge::fixed_length(),
-        [1; 16],
-        [P - 1; 16],
-        row_sum_p,
-    ];
+    let mut states = states::known().to_vec();
     states.extend((0..5).map(|round| states::beyond_p(random, round)));
     states.extend((0..4).map(|_| states::of_edges(random)));
     states.extend((0..2).map(|_| states::small_row_sum(random)));

@@ -21,13 +21,14 @@ pub fn makers() -> Vec<Maker> {
     )
 }
 
-/// A state: chance, edges, or one that makes the source's matrix layer answer p or more.
+/// A state: known, chance, edges, or one that makes the source's matrix layer answer p or more.
 pub fn state(random: &mut Random) -> State {
-    match random.below(8) {
-        0 | 1 => states::random(random),
-        2 | 3 => states::mixed(random),
-        4 => states::of_edges(random),
-        5 => states::small_row_sum(random),
+    match random.below(32) {
+        0 => random.pick(&states::known()),
+        1..8 => states::random(random),
+        8..16 => states::mixed(random),
+        16..20 => states::of_edges(random),
+        20..24 => states::small_row_sum(random),
         _ => {
             let round = random.below(5) as usize;
             states::beyond_p(random, round)
@@ -50,23 +51,17 @@ pub fn refused(call: &'static str, random: &mut Random) -> Case {
 
 /// The same for a call on a round number and a state; a round number over 4 comes first.
 pub fn refused_round(call: &'static str, random: &mut Random) -> Case {
-    let state = match random.below(3) {
-        0 => refusals::not_sixteen(random),
-        1 => refusals::bad_state(random).to_vec(),
-        _ => states::mixed(random).to_vec(),
+    let (state, refusal) = match random.below(3) {
+        0 => (refusals::not_sixteen(random), 2),
+        1 => (refusals::bad_state(random).to_vec(), 1),
+        _ => (states::mixed(random).to_vec(), 0),
     };
-    if random.once_in(2) {
-        let round = refusals::no_round(random);
-        return Case::new(call).number(round).kept(&state).refused(8);
-    }
-    let round = random.below(5);
-    if random.once_in(2) {
-        let state = refusals::not_sixteen(random);
-        Case::new(call).number(round).kept(&state).refused(2)
+    let (round, refusal) = if refusal == 0 || random.once_in(2) {
+        (refusals::no_round(random), 8)
     } else {
-        let state = refusals::bad_state(random);
-        Case::new(call).number(round).kept(&state).refused(1)
-    }
+        (random.below(5), refusal)
+    };
+    Case::new(call).number(round).kept(&state).refused(refusal)
 }
 
 fn permutations(random: &mut Random, count: usize, push: Push) {

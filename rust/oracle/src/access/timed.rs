@@ -1,5 +1,6 @@
 //! The calls that are timed, on a state that lies where the source has it, so that no copy is
-//! timed with them. None is inlined, as ours can't be.
+//! timed with them. None is inlined, as ours can't be. The names by which they are exported are for
+//! `count.c`, which has no part in Rust.
 
 use super::super::inverse::InverseTip5;
 use super::*;
@@ -17,6 +18,7 @@ impl Sponge {
     }
 
     #[inline(never)]
+    #[unsafe(export_name = "theirs_permutation")]
     pub fn permutation(&mut self) {
         self.0.permutation_scalar();
     }
@@ -37,12 +39,14 @@ impl Inverse {
     }
 
     #[inline(never)]
+    #[unsafe(export_name = "theirs_inv_permutation")]
     pub fn inv_permutation(&mut self) {
         self.0.inv_permutation();
     }
 }
 
 #[inline(never)]
+#[unsafe(export_name = "theirs_generated_function")]
 pub fn generated_function(words: &mut [u64; STATE_SIZE]) {
     *words = Tip5::generated_function(*words);
 }
