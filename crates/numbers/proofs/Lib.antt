@@ -1,6 +1,7 @@
 -- The laws of numbers.
 pub mod Congruence
 pub mod Divisors
+pub mod Fill
 pub mod Generator
 pub mod Linear
 pub mod Lists

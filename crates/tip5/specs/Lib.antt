@@ -2,7 +2,9 @@
 pub mod Constants
 pub mod Element
 pub mod Field
+pub mod Inverse
 pub mod Judge
 pub mod Permutation
 pub mod Reduced
 pub mod Round
+pub mod Tables
