@@ -1,4 +1,5 @@
 -- The laws of this crate's definitions.
+pub mod AnswerLaws
 pub mod BytewiseBelow
 pub mod BytewiseLaws
 pub mod BytewiseUndone
@@ -12,9 +13,11 @@ pub mod JudgeLaws
 pub mod LayersUndone
 pub mod LentTables
 pub mod LookupLaws
+pub mod MendedLaws
 pub mod PowersLaws
 pub mod ReducedLaws
 pub mod RoundLaws
 pub mod RoundTrip
 pub mod RowLaws
 pub mod SboxLaws
+pub mod TraceLaws
