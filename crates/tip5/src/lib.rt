@@ -1,6 +1,7 @@
 // The hash function Tip5: its field, its permutation and the way back.
 pub mod b_field_element;
 mod field;
+pub mod inverse;
 mod inverse_layers;
 mod inverse_tables;
 pub mod judge;
