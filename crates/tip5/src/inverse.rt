@@ -9,7 +9,7 @@ use crate::permutation::sixteen;
 use crate::refusal;
 use crate::tables;
 ghost use mathlib.Core.Path.{_≡_};
-ghost use Prim.Native.Nat.{ℕ, _<_};
+ghost use Prim.Native.Nat.{ℕ, _<_, _≤_};
 ghost use lib.ListN.{getD};
 ghost use Rattle.numbers.specs.Modulus.{P};
 ghost use Rattle.tip5.specs.Inverse.{invOneRound, invPermutation, invPermuted, invRound};
@@ -51,24 +51,18 @@ fn five_inv_rounds_with(
     inv_round_with(table, column, constants, 0, s1)
 }
 
-fn one_inv_round(round: usize, state: [u64; 16]) -> [u64; 16]
-    requires { ⌜ (round < 5) × ((k : ℕ) → getD state k 0 < P) ⌝ }
-    ensures { λ r. ⌜ r ≡ invRound round state ⌝ }
+// Round 0 to 4 undone or, for 5, all five. The tables are laid out here and nowhere else.
+fn inv_rounds_of(which: usize, state: [u64; 16]) -> [u64; 16]
+    requires { ⌜ (which ≤ 5) × ((k : ℕ) → getD state k 0 < P) ⌝ }
+    ensures { λ r. ⌜ (which < 5 → r ≡ invRound which state) × (which ≡ 5 → r ≡ invPermuted state) ⌝ }
 {
     let table = inverse_tables::INV_LOOKUP_TABLE;
     let column = inverse_tables::INV_MDS_MATRIX_FIRST_COLUMN;
     let constants = tables::ROUND_CONSTANTS;
-    inv_round_with(&table, &column, &constants, round, state)
-}
-
-fn five_inv_rounds(state: [u64; 16]) -> [u64; 16]
-    requires { ⌜ ((k : ℕ) → getD state k 0 < P) ⌝ }
-    ensures { λ r. ⌜ r ≡ invPermuted state ⌝ }
-{
-    let table = inverse_tables::INV_LOOKUP_TABLE;
-    let column = inverse_tables::INV_MDS_MATRIX_FIRST_COLUMN;
-    let constants = tables::ROUND_CONSTANTS;
-    five_inv_rounds_with(&table, &column, &constants, state)
+    if which == 5 {
+        return five_inv_rounds_with(&table, &column, &constants, state);
+    }
+    inv_round_with(&table, &column, &constants, which, state)
 }
 
 // The state five rounds ago.
@@ -81,7 +75,7 @@ pub fn inv_permutation(state: [u64; 16]) -> StateAnswer
     }
     StateAnswer {
         refusal,
-        state: five_inv_rounds(state),
+        state: inv_rounds_of(5, state),
     }
 }
 
@@ -101,7 +95,7 @@ pub fn inv_round(round: usize, state: [u64; 16]) -> StateAnswer
     }
     StateAnswer {
         refusal,
-        state: one_inv_round(round, state),
+        state: inv_rounds_of(round, state),
     }
 }
 

@@ -2,7 +2,8 @@
 -- Assumes nothing.
 use Rattle.tip5.proofs.AnswerLaws.{state-granted, state-refused}
 use Rattle.tip5.proofs.JudgeLaws.{accepted-below}
-use mathlib.Core.Path.{sym, _∙_}
+use mathlib.Core.Path.{refl, sym, _∙_}
+use native.Mathlib.Nat.{le-refl}
 use borrow.Author.Needs.{needs}
 use Rattle.tip5.proofs.inverse.inv_permutation.Statement.{statement}
 use Rattle.tip5.proofs.inverse.inv_permutation.Tie as tie
@@ -16,11 +17,11 @@ judge-words-requires c κs = search needs
 returns : tie.Need-returns
 returns c = state-refused _ _ (c .before .judge-words .ensures) (c .if1 .taken)
 
-five-inv-rounds-requires : tie.Need-five-inv-rounds-requires
-five-inv-rounds-requires c κs = accepted-below (c .before .before .before .args .t1) (sym (c .before .judge-words .ensures) ∙ c .if1 .left)
+inv-rounds-of-requires : tie.Need-inv-rounds-of-requires
+inv-rounds-of-requires c κs = (le-refl 5, accepted-below (c .before .before .before .args .t1) (sym (c .before .judge-words .ensures) ∙ c .if1 .left))
 
 returns-2 : tie.Need-returns-2
-returns-2 c = state-granted _ (c .before .before .judge-words .ensures) (c .before .if1 .left) (c .five-inv-rounds .ensures)
+returns-2 c = state-granted _ (c .before .before .judge-words .ensures) (c .before .if1 .left) (c .inv-rounds-of .ensures .1 refl)
 
 pub inv-permutation-spec : {M : Type 1} → statement M
 inv-permutation-spec =
@@ -29,5 +30,5 @@ inv-permutation-spec =
     slice-aggregate-judge-words
     judge-words-requires
     returns
-    five-inv-rounds-requires
+    inv-rounds-of-requires
     returns-2)
