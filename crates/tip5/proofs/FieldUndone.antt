@@ -2,15 +2,14 @@
 -- Assumes nothing.
 use mathlib.Core.Path.{_≡_, sym, ap, _∙_}
 use Prim.Native.Nat.{ℕ, _+_, _-_, _*_, _%_, _^_, _<_}
-use native.Mathlib.Nat.{mod-lt}
+use native.Mathlib.Nat.{mul-comm}
 use native.Mathlib.Omega.{arith}
-use lib.Dec.{lit<}
 use Rattle.numbers.specs.Congruence.{Cong}
 use Rattle.numbers.specs.Modulus.{P, rootExponent}
-use Rattle.numbers.proofs.Congruence.{cong-add, cong-eq, cong-mod, cong-multiple, cong-refl, cong-remainder, cong-trans}
-use Rattle.numbers.proofs.Roots.{root-then-seventh, seventh-then-root}
+use Rattle.numbers.proofs.Congruence.{cong-add, cong-eq, cong-mod, cong-multiple, cong-refl, cong-remainder, cong-trans, mod-pow-pow}
+use Rattle.numbers.proofs.Roots.{power-returns-P, seven-roots}
 use Rattle.tip5.specs.Field.{add, power, rawOf, sub, valueOf}
-use Rattle.tip5.proofs.FieldLaws.{rawOf-mod, rawOf-valueOf, valueOf-below, valueOf-rawOf}
+use Rattle.tip5.proofs.FieldLaws.{rawOf-mod, rawOf-valueOf, valueOf-below, valueOf-rawOf-mod}
 
 -- Sums
 
@@ -32,21 +31,23 @@ add-sub {a} {b} ha hb =
 
 -- Powers
 
--- the value of any number's raw word
-valueOf-rawOf-mod : (v : ℕ) → valueOf (rawOf v) ≡ v % P
-valueOf-rawOf-mod v = ap valueOf (sym (rawOf-mod v)) ∙ valueOf-rawOf (mod-lt v (lit< tt))
-
--- two powers that lead back on values do so on raw words
-power-power : (j k : ℕ) → ((x : ℕ) → x < P → (x ^ j % P) ^ k % P ≡ x) → {a : ℕ} → a < P → power (power a j) k ≡ a
+-- a power of a power
+pub power-power : (a j k : ℕ) → power (power a j) k ≡ power a (j * k)
 unfolding power
-power-power j k back {a} h =
+power-power a j k =
     ap (λ (v : ℕ). rawOf (v ^ k)) (valueOf-rawOf-mod (valueOf a ^ j))
     ∙ sym (rawOf-mod ((valueOf a ^ j % P) ^ k))
-    ∙ ap rawOf (back (valueOf a) (valueOf-below a))
-    ∙ rawOf-valueOf h
+    ∙ ap rawOf (mod-pow-pow (valueOf a) j k P)
+    ∙ rawOf-mod (valueOf a ^ (j * k))
+
+-- the power by 4 * (P - 1) + 1 leads back
+power-returns : {a : ℕ} → a < P → power a (4 * (P - 1) + 1) ≡ a
+unfolding power
+power-returns {a} h =
+    sym (rawOf-mod (valueOf a ^ (4 * (P - 1) + 1))) ∙ ap rawOf (power-returns-P (valueOf a) (valueOf-below a)) ∙ rawOf-valueOf h
 
 pub root-seventh : {a : ℕ} → a < P → power (power a 7) rootExponent ≡ a
-root-seventh = power-power 7 rootExponent seventh-then-root
+root-seventh {a} h = power-power a 7 rootExponent ∙ ap (power a) seven-roots ∙ power-returns h
 
 pub seventh-root : {a : ℕ} → a < P → power (power a rootExponent) 7 ≡ a
-seventh-root = power-power rootExponent 7 root-then-seventh
+seventh-root {a} h = power-power a rootExponent 7 ∙ ap (power a) (mul-comm rootExponent 7 ∙ seven-roots) ∙ power-returns h

@@ -11,9 +11,13 @@ pub mod FieldUndone
 pub mod HalvesLaws
 pub mod JudgeLaws
 pub mod LayersUndone
+pub mod LentTables
 pub mod LookupLaws
 pub mod MendedLaws
+pub mod PowersLaws
 pub mod ReducedLaws
 pub mod RoundLaws
 pub mod RoundTrip
+pub mod RowLaws
 pub mod SboxLaws
+pub mod TraceLaws

@@ -5,7 +5,7 @@ use mathlib.Core.List.{[], _∷_}
 use lib.Dec.{lit<}
 use Rattle.numbers.proofs.Linear.{form-through, forms-times, form-plus as add, form-minus as sub}
 use Rattle.matrix.specs.Parts.{sumsMatrix, differencesMatrix, cyclicMatrix, evenMatrix, oddMatrix}
-use Rattle.matrix.proofs.Steps.{free}
+use Rattle.matrix.proofs.Calls.{free}
 use Rattle.matrix.proofs.Whole.{whole-row}
 use Rattle.matrix.proofs.generated_function.Statement.{statement}
 use Rattle.matrix.proofs.generated_function.Tie as tie

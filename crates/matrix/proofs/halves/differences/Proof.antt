@@ -8,7 +8,7 @@ use lib.ListN.{getD}
 use lib.Dec.{lit<}
 use Rattle.numbers.proofs.Linear.{form-input, form-word, form-minus as sub}
 use Rattle.matrix.specs.Parts.{differencesMatrix}
-use Rattle.matrix.proofs.Steps.{free}
+use Rattle.matrix.proofs.Calls.{free}
 use Rattle.matrix.proofs.halves.differences.Statement.{statement}
 use Rattle.matrix.proofs.halves.differences.Tie as tie
 

@@ -8,7 +8,7 @@ use lib.ListN.{getD}
 use lib.Dec.{lit<}
 use Rattle.numbers.proofs.Linear.{form-input, form-word, form-plus as add}
 use Rattle.matrix.specs.Parts.{sumsMatrix}
-use Rattle.matrix.proofs.Steps.{free}
+use Rattle.matrix.proofs.Calls.{free}
 use Rattle.matrix.proofs.halves.sums.Statement.{statement}
 use Rattle.matrix.proofs.halves.sums.Tie as tie
 

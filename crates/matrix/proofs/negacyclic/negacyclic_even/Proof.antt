@@ -8,7 +8,7 @@ use lib.ListN.{getD}
 use lib.Dec.{lit<}
 use Rattle.numbers.proofs.Linear.{form-input, form-word, form-plus as add, form-minus as sub, form-times as mul}
 use Rattle.matrix.specs.Parts.{evenMatrix}
-use Rattle.matrix.proofs.Steps.{free}
+use Rattle.matrix.proofs.Calls.{free}
 use Rattle.matrix.proofs.negacyclic.negacyclic_even.Statement.{statement}
 use Rattle.matrix.proofs.negacyclic.negacyclic_even.Tie as tie
 
