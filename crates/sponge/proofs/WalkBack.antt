@@ -9,16 +9,15 @@ use Rattle.sponge.specs.declared.by_value.SpongeAnswer.{SpongeAnswer}
 use Rattle.sponge.specs.declared.step_back.StepKind.{StepKind}
 use Rattle.sponge.specs.declared.step_back.StepKind.the-variants.{Squeeze, Absorb}
 use Rattle.sponge.specs.declared.Tip5.{Tip5}
-use Rattle.sponge.specs.Answers.{absorbRefusal, granted, nextSponge, squeezeRefusal, stepBack}
+use Rattle.sponge.specs.Answers.{tenRefusal, granted, nextSponge, spongeRefusal, stepBack}
 use Rattle.sponge.specs.History.{Step, after, run}
 use Rattle.sponge.specs.History.Step.{squeeze, absorb}
 use Rattle.sponge.specs.Sponge.{absorbed, rate, squeezed}
 use Rattle.sponge.specs.WalkBack.{Accepted, AllKept, Keeps, Kept, stepRefusal, walk}
-use Rattle.tip5.specs.Judge.{unless, wordRefusal}
-use Rattle.tip5.proofs.JudgeLaws.{accepted-below, below-accepted}
-use Rattle.sponge.proofs.AcceptedLaws.{absorb-accepted, accepted-absorb}
+use Rattle.tip5.specs.Judge.{unless}
+use Rattle.tip5.proofs.JudgeLaws.{accepted-below}
+use Rattle.sponge.proofs.AcceptedLaws.{accepted-ten, places-accepted, ten-accepted}
 use Rattle.sponge.proofs.HistoryLaws.{after-length}
-use Rattle.sponge.proofs.RefusalLaws.{first-none, length-accepted}
 use Rattle.sponge.proofs.SpongeLaws.{absorbed-below, rate-below, rate-length, squeezed-below, unabsorbed-absorbed, unsqueezed-squeezed}
 
 -- an answer whose refusal is none
@@ -27,19 +26,19 @@ next-granted {next = next} room none same = ap (λ (n : ℕ). nextSponge n next 
 
 -- One step
 
-pub back-squeeze : (s : Tip5) (places : List ℕ) → length (s .state) ≡ 16 → squeezeRefusal s ≡ 0 → length places ≡ 10
+pub back-squeeze : (s : Tip5) (places : List ℕ) → length (s .state) ≡ 16 → spongeRefusal s ≡ 0 → length places ≡ 10
     → stepBack Squeeze (squeezed s) places ≡ granted s
 back-squeeze s places e accepted ten =
     next-granted (squeezed s)
-    (first-none (wordRefusal (squeezed s .state) ∷ []) (length-accepted places ten) (first-none [] (below-accepted (squeezed s .state) (squeezed-below s)) refl))
+    (places-accepted (squeezed s) places ten (squeezed-below s))
     (unsqueezed-squeezed s e (accepted-below (s .state) accepted))
 
-pub back-absorb : (s : Tip5) (ten : List ℕ) → length (s .state) ≡ 16 → absorbRefusal s ten ≡ 0
+pub back-absorb : (s : Tip5) (ten : List ℕ) → length (s .state) ≡ 16 → tenRefusal s ten ≡ 0
     → stepBack Absorb (absorbed ten s) (rate s) ≡ granted s
 back-absorb s ten e accepted =
-    let words = accepted-absorb s ten accepted in
+    let words = accepted-ten s ten accepted in
     next-granted (absorbed ten s)
-    (absorb-accepted (absorbed ten s) (rate s) (rate-length s e) (absorbed-below ten s) (rate-below s (words .1)))
+    (ten-accepted (absorbed ten s) (rate s) (rate-length s e) (absorbed-below ten s) (rate-below s (words .1)))
     (unabsorbed-absorbed ten s (words .0) (words .2) e (words .1))
 
 pub back-step : (t : Step) (s : Tip5) (k : Kept) → length (s .state) ≡ 16 → stepRefusal t s ≡ 0 → Keeps t s k
