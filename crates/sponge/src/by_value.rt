@@ -111,10 +111,12 @@ pub fn squeeze(sponge: Tip5) -> SqueezeAnswer
             ten: [0; 10],
         };
     }
+    let next = permute(sponge);
+    let ten = rate(sponge);
     SqueezeAnswer {
         refusal,
-        sponge: permute(sponge),
-        ten: rate(sponge),
+        sponge: next,
+        ten,
     }
 }
 
