@@ -5,5 +5,9 @@ pub const NONE: u8 = 0;
 pub const BAD_WORD: u8 = 1;
 // A slice does not have the length that it must have.
 pub const WRONG_LENGTH: u8 = 2;
+// A sheet that is shorter than its header, or not as long as its header says.
+pub const WRONG_SHEET_LENGTH: u8 = 4;
+// A sheet whose header says what no sheet's does.
+pub const BAD_HEADER: u8 = 5;
 // A round number over 4.
 pub const NO_SUCH_ROUND: u8 = 8;

@@ -1,0 +1,4 @@
+-- The laws of this crate's definitions.
+pub mod BitLaws
+pub mod JudgeLaws
+pub mod SheetLaws
