@@ -1,4 +1,6 @@
 -- The laws of this crate's definitions.
 pub mod BitLaws
 pub mod JudgeLaws
+pub mod LineLaws
+pub mod PutLaws
 pub mod SheetLaws

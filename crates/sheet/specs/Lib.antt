@@ -2,4 +2,5 @@
 pub mod Bits
 pub mod Header
 pub mod Line
+pub mod Put
 pub mod Sheet

@@ -1,5 +1,5 @@
 -- The lines that the program writes, as lists of bytes.
-use mathlib.Core.Bool.{true, false}
+use mathlib.Core.Bool.{cond}
 use mathlib.Core.List.{List, [], _∷_, _++_}
 use Prim.Native.Char.{code}
 use Prim.Native.Nat.{ℕ, zero, suc, _+_, _/_, _%_}
@@ -24,7 +24,9 @@ digit n = 48 + n % 10
 -- the decimal digits of n: those of n / 10, where that is not 0, and the last one. The depth bounds the number of divisions
 unfoldable pub decimalWithin : (depth n : ℕ) → List ℕ
 decimalWithin zero n = digit n ∷ []
-decimalWithin (suc d) n = elim (ltb n 10) [ true ↦ digit n ∷ [] | false ↦ decimalWithin d (n / 10) ++ (digit n ∷ []) ]
+decimalWithin (suc d) n =
+    let longer = decimalWithin d (n / 10) ++ (digit n ∷ []) in
+    cond (ltb n 10) (digit n ∷ []) longer
 
 -- no number can be divided more often than it says
 unfoldable pub decimal : ℕ → List ℕ
@@ -41,6 +43,11 @@ unfoldable pub joined : List ℕ → List ℕ
 unfolding spaced
 joined [] = []
 joined (n ∷ ns) = decimal n ++ spaced ns
+
+-- number i of a line: but for the first, a space stands before it
+abbrev pub separated : (i n : ℕ) → List ℕ
+separated zero n = decimal n
+separated (suc i) n = space ∷ decimal n
 
 -- a line: its head, its numbers and one newline
 unfoldable pub line : (head numbers : List ℕ) → List ℕ

@@ -3,3 +3,4 @@ mod bits;
 mod elements;
 pub mod header;
 pub mod judge;
+mod put;

@@ -1,0 +1,119 @@
+-- `put::put_decimal` meets its contract. It calls itself at a tenth of its number.
+-- Assumes nothing.
+use mathlib.Core.Path.{_≡_, ap, _∙_}
+use mathlib.Core.List.{[], _∷_}
+use Prim.Native.Nat.{ℕ, _/_, _<_}
+use native.Mathlib.Omega.{arith}
+use borrow.Author.Needs.{needs}
+use borrow.Fn.Kinds.{In}
+use borrow.Fn.PlainCycle.{Measures, is, falls, and}
+use lib.ListN.{length, length-append}
+use Rattle.sheet.specs.Line.{decimal, digit}
+use Rattle.sheet.proofs.LineLaws.{decimal-large, decimal-small, large-length}
+use Rattle.sheet.proofs.PutLaws.{put-append}
+use Rattle.sheet.proofs.put.put_decimal.Reads as put-decimal
+use Rattle.sheet.proofs.put.put_decimal.Kinds as put-decimal-kinds
+use Rattle.sheet.proofs.put.+put_decimal.Lts-put_decimal as put-decimal-lts
+use Rattle.sheet.proofs.put.digit.Reads as digit-reads
+use Rattle.sheet.proofs.put.put_byte.Reads as put-byte-reads
+use Rattle.sheet.proofs.put.+put_decimal.{statement}
+use Rattle.sheet.proofs.put.+put_decimal.Tie.{close}
+
+abbrev μ-put-decimal : Measures 1 put-decimal-kinds.ps ℕ
+μ-put-decimal κs a = a .0
+
+abbrev put-decimal-at : ℕ → In 1 put-decimal-kinds.ps
+put-decimal-at t = and 1 put-decimal-kinds.ps (is 1 put-decimal-kinds.ps μ-put-decimal t) put-decimal.Pre
+
+abbrev put-decimal-below : ℕ → In 1 put-decimal-kinds.ps
+put-decimal-below t = and 1 put-decimal-kinds.ps (falls 1 put-decimal-kinds.ps _<_ μ-put-decimal t) put-decimal.Pre
+
+digit-requires : (t : ℕ) → put-decimal-lts.Need-digit-requires (
+  digit-reads.Asked,
+  digit-reads.Learnt,
+  put-byte-reads.Asked,
+  put-byte-reads.Learnt,
+  put-decimal-below t,
+  put-decimal.Post,
+) (put-decimal-at t) put-decimal.Post
+digit-requires t c κs = search needs
+
+put-byte-requires : (t : ℕ) → put-decimal-lts.Need-put-byte-requires (
+  digit-reads.Asked,
+  digit-reads.Learnt,
+  put-byte-reads.Asked,
+  put-byte-reads.Learnt,
+  put-decimal-below t,
+  put-decimal.Post,
+) (put-decimal-at t) put-decimal.Post
+put-byte-requires t c κs = omega (arith, ap length (decimal-small (c .before .before .if1 .taken)))
+
+returns : (t : ℕ) → put-decimal-lts.Need-returns (
+  digit-reads.Asked,
+  digit-reads.Learnt,
+  put-byte-reads.Asked,
+  put-byte-reads.Learnt,
+  put-decimal-below t,
+  put-decimal.Post,
+) (put-decimal-at t) put-decimal.Post
+returns t c = rw (decimal-small (c .before .before .before .if1 .taken), ← c .before .before .digit .ensures) (c .put-byte .ensures)
+
+put-decimal-requires : (t : ℕ) → put-decimal-lts.Need-put-decimal-requires (
+  digit-reads.Asked,
+  digit-reads.Learnt,
+  put-byte-reads.Asked,
+  put-byte-reads.Learnt,
+  put-decimal-below t,
+  put-decimal.Post,
+) (put-decimal-at t) put-decimal.Post
+put-decimal-requires t c κs = omega (arith, large-length (c .before .if1 .left))
+
+digit-requires-2 : (t : ℕ) → put-decimal-lts.Need-digit-requires-2 (
+  digit-reads.Asked,
+  digit-reads.Learnt,
+  put-byte-reads.Asked,
+  put-byte-reads.Learnt,
+  put-decimal-below t,
+  put-decimal.Post,
+) (put-decimal-at t) put-decimal.Post
+digit-requires-2 t c κs = search needs
+
+put-byte-requires-2 : (t : ℕ) → put-decimal-lts.Need-put-byte-requires-2 (
+  digit-reads.Asked,
+  digit-reads.Learnt,
+  put-byte-reads.Asked,
+  put-byte-reads.Learnt,
+  put-decimal-below t,
+  put-decimal.Post,
+) (put-decimal-at t) put-decimal.Post
+put-byte-requires-2 t c κs = omega (arith, large-length (c .before .before .before .before .if1 .left))
+
+returns-2 : (t : ℕ) → put-decimal-lts.Need-returns-2 (
+  digit-reads.Asked,
+  digit-reads.Learnt,
+  put-byte-reads.Asked,
+  put-byte-reads.Learnt,
+  put-decimal-below t,
+  put-decimal.Post,
+) (put-decimal-at t) put-decimal.Post
+returns-2 t c =
+    let n = c .before .before .before .before .before .before .args .n in
+    rw (decimal-large (c .before .before .before .before .before .if1 .left), ← c .before .before .digit2 .ensures)
+    (put-append (decimal (n / 10)) (c .before .before .digit2 .result ∷ []) (c .before .before .before .put-decimal .ensures) (c .put-byte2 .ensures))
+
+pub +put-decimal-spec : {M : Type 1} → statement M
++put-decimal-spec = close μ-put-decimal λ t. put-decimal-lts.spec (
+  digit-reads.Asked,
+  digit-reads.Learnt,
+  put-byte-reads.Asked,
+  put-byte-reads.Learnt,
+  put-decimal-below t,
+  put-decimal.Post,
+) (put-decimal-at t) put-decimal.Post
+    (digit-requires t)
+    (put-byte-requires t)
+    (returns t)
+    (put-decimal-requires t)
+    (digit-requires-2 t)
+    (put-byte-requires-2 t)
+    (returns-2 t)
