@@ -72,6 +72,15 @@ decimal-length (suc k) {n} h l =
 
 -- The numbers of a line
 
+-- the first number stands without a space
+pub separated-first : {i : ℕ} (n : ℕ) → i ≡ 0 → separated i n ≡ decimal n
+separated-first n e = ap (λ (i : ℕ). separated i n) e
+
+-- any other after one
+pub separated-later : {i : ℕ} (n : ℕ) → (i ≡ 0 → ⊥) → separated i n ≡ space ∷ decimal n
+separated-later {i = zero} n h = absurd (h refl)
+separated-later {i = suc i} n h = refl
+
 -- what is left to write of the numbers from number i on
 abbrev pub rest : (i : ℕ) (ns : List ℕ) → List ℕ
 rest zero ns = joined ns
@@ -83,6 +92,9 @@ unfolding joined spaced
 rest-next zero [] h = absurd (not-suc-le-zero h)
 rest-next zero (n ∷ ns) h = refl
 rest-next (suc i) ns h = rw (drop-cons ns (suc i) 0 h, add-one (suc i))
+
+pub rest-length : (i : ℕ) (ns : List ℕ) → i < length ns → length (rest i ns) ≡ length (separated i (getD ns i 0)) + length (rest (i + 1) ns)
+rest-length i ns h = ap length (rest-next i ns h) ∙ length-append (separated i (getD ns i 0)) (rest (i + 1) ns)
 
 -- nothing is left at the end
 pub rest-none : (i : ℕ) (ns : List ℕ) → length ns ≤ i → rest i ns ≡ []

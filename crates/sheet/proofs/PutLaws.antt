@@ -22,6 +22,10 @@ put-append {k} {at = at} xs ys p q = record {
   ; place = q .place ∙ rw (p .place, length-append xs ys) (add-assoc at (length xs) (length ys))
 }
 
+-- what is still to be written after a call, as a part of what was to be written before it
+pub put-rest : {l m : List ℕ} {at next : ℕ} {xs : List ℕ} (ys : List ℕ) → Put l at xs m next → sets m next ys ≡ sets l at (xs ++ ys)
+put-rest {l} {at = at} {xs = xs} ys p = rw (p .stored, p .place) (sets-append l at xs ys)
+
 -- from the beginning of a list on that is long enough: the bytes, and then what stood after them
 pub put-front : {k l : List ℕ} {end : ℕ} (xs : List ℕ) → Put k 0 xs l end → length xs ≤ length k → l ≡ xs ++ drop (length xs) k
 put-front {k} xs p h = p .stored ∙ sets-eq xs k 0 (rw (zero-add (length xs)) h) ∙ ap (λ (n : ℕ). xs ++ drop n k) (zero-add (length xs))

@@ -3,4 +3,5 @@ mod bits;
 mod elements;
 pub mod header;
 pub mod judge;
+pub mod line;
 mod put;
