@@ -13,7 +13,7 @@ use borrow.Author.Tests.{lt-ltb, le-ltb}
 use lib.Dec.{lit<}
 use lib.ListN.{length, drop, getD, length-append, drop-of-length-le}
 use lib.Seq.{drop-cons}
-use Rattle.sheet.specs.Line.{decimal, decimalWithin, digit, joined, separated, space, spaced}
+use Rattle.sheet.specs.Line.{decimal, decimalWithin, digit, joined, line, newline, separated, space, spaced}
 
 -- Decimal numbers
 
@@ -103,9 +103,22 @@ rest-none zero [] h = refl
 rest-none zero (n ∷ ns) h = absurd (not-suc-le-zero h)
 rest-none (suc i) ns h = ap spaced (drop-of-length-le ns h)
 
+-- a line is as long as its parts
+pub line-length : (head ns : List ℕ) → length (line head ns) ≡ length head + length (joined ns) + 1
+unfolding line
+line-length head ns =
+    length-append (head ++ joined ns) (newline ∷ []) ∙ ap (λ (n : ℕ). n + 1) (length-append head (joined ns))
+
 -- numbers below 10 ^ k take at most k + 1 bytes each
 pub spaced-length : (k : ℕ) (ns : List ℕ) → 0 < k → ((i : ℕ) → getD ns i 0 < 10 ^ k) → length (spaced ns) ≤ (k + 1) * length ns
 unfolding spaced
 spaced-length k [] h l = zero-le
 spaced-length k (n ∷ ns) h l =
+    rw (length-append (decimal n) (spaced ns)) (omega (arith, decimal-length k h (l 0), spaced-length k ns h (λ i. l (suc i))))
+
+-- numbers with one space between take no more
+pub joined-length : (k : ℕ) (ns : List ℕ) → 0 < k → ((i : ℕ) → getD ns i 0 < 10 ^ k) → length (joined ns) ≤ (k + 1) * length ns
+unfolding joined
+joined-length k [] h l = zero-le
+joined-length k (n ∷ ns) h l =
     rw (length-append (decimal n) (spaced ns)) (omega (arith, decimal-length k h (l 0), spaced-length k ns h (λ i. l (suc i))))

@@ -7,7 +7,7 @@ use native.Mathlib.Nat.{add-assoc, add-suc, add-zero, suc-add, zero-add}
 use native.Mathlib.Omega.{arith}
 use lib.ListN.{length, drop, set, length-append}
 use lib.Seq.{sets, sets-eq}
-use Rattle.sheet.specs.Put.{Put}
+use Rattle.sheet.specs.Put.{Put, Front}
 
 -- a run of bytes is written in two parts
 pub sets-append : (l : List ℕ) (at : ℕ) (xs ys : List ℕ) → sets (sets l at xs) (at + length xs) ys ≡ sets l at (xs ++ ys)
@@ -27,5 +27,8 @@ pub put-rest : {l m : List ℕ} {at next : ℕ} {xs : List ℕ} (ys : List ℕ) 
 put-rest {l} {at = at} {xs = xs} ys p = rw (p .stored, p .place) (sets-append l at xs ys)
 
 -- from the beginning of a list on that is long enough: the bytes, and then what stood after them
-pub put-front : {k l : List ℕ} {end : ℕ} (xs : List ℕ) → Put k 0 xs l end → length xs ≤ length k → l ≡ xs ++ drop (length xs) k
-put-front {k} xs p h = p .stored ∙ sets-eq xs k 0 (rw (zero-add (length xs)) h) ∙ ap (λ (n : ℕ). xs ++ drop n k) (zero-add (length xs))
+pub put-front : {k l : List ℕ} {end : ℕ} {xs : List ℕ} → Put k 0 xs l end → length xs ≤ length k → Front k xs l end
+put-front {k} {xs = xs} p h = record {
+  stored = p .stored ∙ sets-eq xs k 0 (rw (zero-add (length xs)) h) ∙ ap (λ (n : ℕ). xs ++ drop n k) (zero-add (length xs))
+  ; counted = p .place ∙ zero-add (length xs)
+}

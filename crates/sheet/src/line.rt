@@ -22,8 +22,8 @@ fn number_at(words: &[u64], indices: &[u32], i: usize) -> u64
 }
 
 // Number i of a line: but for the first, a space stands before it.
-fn put_separated(i: usize, n: u64, out: &mut [u8; 65536], at: usize) -> usize
-    requires { ⌜ at + length (separated i n) ≤ 65536 ⌝ }
+fn put_separated(i: usize, n: u64, out: &mut [u8], at: usize) -> usize
+    requires { ⌜ at + length (separated i n) ≤ length (now out) ⌝ }
     ensures { λ r. ⌜ Put (now (out .entry)) at (separated i n) (now (out .exit)) r ⌝ }
 {
     if i == 0 {
@@ -34,8 +34,8 @@ fn put_separated(i: usize, n: u64, out: &mut [u8; 65536], at: usize) -> usize
 }
 
 // Words and then indices, one space between.
-fn put_joined(words: &[u64], indices: &[u32], out: &mut [u8; 65536], at: usize) -> usize
-    requires { ⌜ at + length (joined (now words ++ now indices)) ≤ 65536 ⌝ }
+fn put_joined(words: &[u64], indices: &[u32], out: &mut [u8], at: usize) -> usize
+    requires { ⌜ at + length (joined (now words ++ now indices)) ≤ length (now out) ⌝ }
     ensures { λ r. ⌜ Put (now (out .entry)) at (joined (now (words .entry) ++ now (indices .entry))) (now (out .exit)) r ⌝ }
 {
     let mut next = at;
@@ -48,8 +48,8 @@ fn put_joined(words: &[u64], indices: &[u32], out: &mut [u8; 65536], at: usize) 
 }
 
 // A line of a head and numbers, which are words and then indices.
-fn put_line(head: &[u8], words: &[u64], indices: &[u32], out: &mut [u8; 65536]) -> usize
-    requires { ⌜ length (line (now head) (now words ++ now indices)) ≤ 65536 ⌝ }
+fn put_line(head: &[u8], words: &[u64], indices: &[u32], out: &mut [u8]) -> usize
+    requires { ⌜ length (line (now head) (now words ++ now indices)) ≤ length (now out) ⌝ }
     ensures { λ r. ⌜ Front (now (out .entry)) (line (now (head .entry)) (now (words .entry) ++ now (indices .entry))) (now (out .exit)) r ⌝ }
 {
     let first = put_bytes(head, out, 0);

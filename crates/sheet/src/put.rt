@@ -1,4 +1,4 @@
-// Writing bytes and decimal numbers into a line, from a place on. Each call answers the place after
+// Writing bytes and decimal numbers into a slice, from a place on. Each call answers the place after
 // what it wrote, which has to fit.
 ghost use mathlib.Core.Path.{_≡_};
 ghost use mathlib.Core.List.{[], _∷_};
@@ -8,16 +8,16 @@ ghost use Rattle.sheet.specs.Line.{decimal};
 ghost use Rattle.sheet.specs.Line as Line;
 ghost use Rattle.sheet.specs.Put.{Put};
 
-pub(crate) fn put_byte(byte: u8, out: &mut [u8; 65536], at: usize) -> usize
-    requires { ⌜ at < 65536 ⌝ }
+pub(crate) fn put_byte(byte: u8, out: &mut [u8], at: usize) -> usize
+    requires { ⌜ at < length (now out) ⌝ }
     ensures { λ r. ⌜ Put (now (out .entry)) at (byte ∷ []) (now (out .exit)) r ⌝ }
 {
     out[at] = byte;
     at + 1
 }
 
-pub(crate) fn put_bytes(bytes: &[u8], out: &mut [u8; 65536], at: usize) -> usize
-    requires { ⌜ at + length (now bytes) ≤ 65536 ⌝ }
+pub(crate) fn put_bytes(bytes: &[u8], out: &mut [u8], at: usize) -> usize
+    requires { ⌜ at + length (now bytes) ≤ length (now out) ⌝ }
     ensures { λ r. ⌜ Put (now (out .entry)) at (now (bytes .entry)) (now (out .exit)) r ⌝ }
 {
     let mut i = 0;
@@ -36,8 +36,8 @@ fn digit(n: u64) -> u8
 }
 
 // The digits of n / 10, where that is not 0, and then the last one.
-pub(crate) fn put_decimal(n: u64, out: &mut [u8; 65536], at: usize) -> usize
-    requires { ⌜ at + length (decimal n) ≤ 65536 ⌝ }
+pub(crate) fn put_decimal(n: u64, out: &mut [u8], at: usize) -> usize
+    requires { ⌜ at + length (decimal n) ≤ length (now out) ⌝ }
     ensures { λ r. ⌜ Put (now (out .entry)) at (decimal n) (now (out .exit)) r ⌝ }
 {
     if n < 10 {

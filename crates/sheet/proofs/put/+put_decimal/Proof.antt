@@ -7,8 +7,8 @@ use native.Mathlib.Omega.{arith}
 use borrow.Author.Needs.{needs}
 use borrow.Fn.Kinds.{In}
 use borrow.Fn.PlainCycle.{Measures, is, falls, and}
-use lib.ListN.{length, length-append}
-use Rattle.sheet.specs.Line.{decimal, digit}
+use lib.ListN.{length}
+use Rattle.sheet.specs.Line.{decimal}
 use Rattle.sheet.proofs.LineLaws.{decimal-large, decimal-small, large-length}
 use Rattle.sheet.proofs.PutLaws.{put-append}
 use Rattle.sheet.proofs.put.put_decimal.Reads as put-decimal
@@ -21,6 +21,8 @@ use Rattle.sheet.proofs.put.+put_decimal.Tie.{close}
 
 abbrev μ-put-decimal : Measures 1 put-decimal-kinds.ps ℕ
 μ-put-decimal κs a = a .0
+
+-- what `put_decimal` is given at the measure t, and what a call of it asks below t
 
 abbrev put-decimal-at : ℕ → In 1 put-decimal-kinds.ps
 put-decimal-at t = and 1 put-decimal-kinds.ps (is 1 put-decimal-kinds.ps μ-put-decimal t) put-decimal.Pre
@@ -48,6 +50,16 @@ put-byte-requires : (t : ℕ) → put-decimal-lts.Need-put-byte-requires (
 ) (put-decimal-at t) put-decimal.Post
 put-byte-requires t c κs = omega (arith, ap length (decimal-small (c .before .before .if1 .taken)))
 
+same-length : (t : ℕ) → put-decimal-lts.Need-same-length (
+  digit-reads.Asked,
+  digit-reads.Learnt,
+  put-byte-reads.Asked,
+  put-byte-reads.Learnt,
+  put-decimal-below t,
+  put-decimal.Post,
+) (put-decimal-at t) put-decimal.Post
+same-length t c = search needs
+
 returns : (t : ℕ) → put-decimal-lts.Need-returns (
   digit-reads.Asked,
   digit-reads.Learnt,
@@ -56,7 +68,7 @@ returns : (t : ℕ) → put-decimal-lts.Need-returns (
   put-decimal-below t,
   put-decimal.Post,
 ) (put-decimal-at t) put-decimal.Post
-returns t c = rw (decimal-small (c .before .before .before .if1 .taken), ← c .before .before .digit .ensures) (c .put-byte .ensures)
+returns t c = rw (decimal-small (c .before .before .before .before .before .if1 .taken), ← c .before .before .before .before .digit .ensures) (c .before .before .put-byte .ensures)
 
 put-decimal-requires : (t : ℕ) → put-decimal-lts.Need-put-decimal-requires (
   digit-reads.Asked,
@@ -86,7 +98,17 @@ put-byte-requires-2 : (t : ℕ) → put-decimal-lts.Need-put-byte-requires-2 (
   put-decimal-below t,
   put-decimal.Post,
 ) (put-decimal-at t) put-decimal.Post
-put-byte-requires-2 t c κs = omega (arith, large-length (c .before .before .before .before .if1 .left))
+put-byte-requires-2 t c κs = omega (arith, large-length (c .before .before .before .before .before .before .if1 .left))
+
+same-length-2 : (t : ℕ) → put-decimal-lts.Need-same-length-2 (
+  digit-reads.Asked,
+  digit-reads.Learnt,
+  put-byte-reads.Asked,
+  put-byte-reads.Learnt,
+  put-decimal-below t,
+  put-decimal.Post,
+) (put-decimal-at t) put-decimal.Post
+same-length-2 t c = search needs
 
 returns-2 : (t : ℕ) → put-decimal-lts.Need-returns-2 (
   digit-reads.Asked,
@@ -97,9 +119,9 @@ returns-2 : (t : ℕ) → put-decimal-lts.Need-returns-2 (
   put-decimal.Post,
 ) (put-decimal-at t) put-decimal.Post
 returns-2 t c =
-    let n = c .before .before .before .before .before .before .args .n in
-    rw (decimal-large (c .before .before .before .before .before .if1 .left), ← c .before .before .digit2 .ensures)
-    (put-append (decimal (n / 10)) (c .before .before .digit2 .result ∷ []) (c .before .before .before .put-decimal .ensures) (c .put-byte2 .ensures))
+    let d = c .before .before .before .before .digit2 in
+    rw (decimal-large (c .before .before .before .before .before .before .before .before .before .if1 .left), ← d .ensures)
+    (put-append (decimal (c .before .before .before .before .before .before .before .before .before .before .before .args .n / 10)) (d .result ∷ []) (c .before .before .before .before .before .before .before .put-decimal .ensures) (c .before .before .put-byte2 .ensures))
 
 pub +put-decimal-spec : {M : Type 1} → statement M
 +put-decimal-spec = close μ-put-decimal λ t. put-decimal-lts.spec (
@@ -112,8 +134,10 @@ pub +put-decimal-spec : {M : Type 1} → statement M
 ) (put-decimal-at t) put-decimal.Post
     (digit-requires t)
     (put-byte-requires t)
+    (same-length t)
     (returns t)
     (put-decimal-requires t)
     (digit-requires-2 t)
     (put-byte-requires-2 t)
+    (same-length-2 t)
     (returns-2 t)

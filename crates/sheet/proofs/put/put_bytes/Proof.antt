@@ -1,23 +1,24 @@
 -- `put::put_bytes` meets its contract. The invariant: to write what is left is to write all.
 -- Assumes nothing.
-use mathlib.Core.Path.{_≡_, sym, ap, _∙_}
+use mathlib.Core.Path.{_≡_, refl, sym, ap, _∙_}
 use Prim.Native.Nat.{ℕ, suc, _+_, _-_, _≤_, _<_}
 use native.Mathlib.Nat.{add-suc, add-zero}
 use native.Mathlib.Numerals.{add-one}
 use native.Mathlib.Omega.{arith}
-use lib.ListN.{length, drop, getD, drop-of-length-le}
+use lib.ListN.{length, drop, getD, length-set, drop-of-length-le}
 use lib.Seq.{drop-cons, sets}
 use Rattle.sheet.proofs.put.put_bytes.Statement.{statement}
 use Rattle.sheet.proofs.put.put_bytes.Tie as tie
 
 abbrev Inv-loop : tie.InvT-loop
-Inv-loop bytes out₀ at i₀ out i = (i ≤ length bytes) × (sets out (at + i) (drop i bytes) ≡ sets out₀ at bytes)
+Inv-loop bytes out₀ at i₀ out i =
+    (i ≤ length bytes) × (length out ≡ length out₀) × (sets out (at + i) (drop i bytes) ≡ sets out₀ at bytes)
 
 abbrev μ-loop : tie.MeasureT-loop
 μ-loop bytes out₀ at i₀ out i = length bytes - i
 
 loop-holds : tie.Need-loop-holds Inv-loop μ-loop
-loop-holds c = (omega arith, rw (add-zero (c .args .at)))
+loop-holds c = (omega arith, refl, rw (add-zero (c .args .at)))
 
 shared-slice-read-out : tie.Need-shared-slice-read-out Inv-loop μ-loop
 shared-slice-read-out c = omega arith
@@ -25,8 +26,8 @@ shared-slice-read-out c = omega arith
 add-out : tie.Need-add-out Inv-loop μ-loop
 add-out c = omega arith
 
-element-write-out : tie.Need-element-write-out Inv-loop μ-loop
-element-write-out c = omega arith
+slice-write-out : tie.Need-slice-write-out Inv-loop μ-loop
+slice-write-out c = omega arith
 
 add-i : tie.Need-add-i Inv-loop μ-loop
 add-i c = omega arith
@@ -39,18 +40,22 @@ loop-again c =
     let s = c .before .before .before .args in
     let l = c .before .before .loop in (
       omega arith,
-      rw (add-one (l .i), add-suc (s .at) (l .i)) (rw (drop-cons (s .bytes .now) (l .i) 0 (omega arith)) at (l .inv .1)),
+      length-set (l .out) (s .at + l .i) (getD (s .bytes .now) (l .i) 0) ∙ l .inv .1,
+      rw (add-one (l .i), add-suc (s .at) (l .i)) (rw (drop-cons (s .bytes .now) (l .i) 0 (omega arith)) at (l .inv .2)),
     )
 
 add-result : tie.Need-add-result Inv-loop μ-loop
 add-result c = omega arith
+
+same-length : tie.Need-same-length Inv-loop μ-loop
+same-length c = c .before .loop .inv .1
 
 returns : tie.Need-returns Inv-loop μ-loop
 returns c =
     let s = c .before .before .args in
     let l = c .before .loop in
     record {
-      stored = rw (drop-of-length-le (s .bytes .now) {i = l .i} (omega arith)) at (l .inv .1)
+      stored = rw (drop-of-length-le (s .bytes .now) {i = l .i} (omega arith)) at (l .inv .2)
       ; place = omega arith
     }
 
@@ -63,9 +68,10 @@ put-bytes-spec =
     loop-holds
     shared-slice-read-out
     add-out
-    element-write-out
+    slice-write-out
     add-i
     loop-less
     loop-again
     add-result
+    same-length
     returns)

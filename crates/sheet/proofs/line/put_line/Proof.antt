@@ -1,0 +1,45 @@
+-- `line::put_line` meets its contract: its three parts are written one after another, from the front on.
+-- Assumes nothing.
+use mathlib.Core.List.{[], _∷_, _++_}
+use native.Mathlib.Omega.{arith}
+use borrow.Author.Needs.{needs}
+use lib.ListN.{length}
+use Rattle.sheet.specs.Line.{joined, line, newline}
+use Rattle.sheet.proofs.LineLaws.{line-length}
+use Rattle.sheet.proofs.PutLaws.{put-append, put-front}
+use Rattle.sheet.proofs.line.put_line.Statement.{statement}
+use Rattle.sheet.proofs.line.put_line.Tie as tie
+
+put-bytes-requires : tie.Need-put-bytes-requires
+put-bytes-requires c κs =
+    let s = c .before .before .before .before .before .args in
+    omega (arith, line-length (s .head .now) (s .words .now ++ s .indices .now))
+
+put-joined-requires : tie.Need-put-joined-requires
+put-joined-requires c κs =
+    let s = c .before .before .before .before .before .before .before .before .before .args in
+    omega (arith, line-length (s .head .now) (s .words .now ++ s .indices .now))
+
+put-byte-requires : tie.Need-put-byte-requires
+put-byte-requires c κs =
+    let s = c .before .before .before .before .before .before .before .before .before .before .before .before .before .args in
+    omega (arith, line-length (s .head .now) (s .words .now ++ s .indices .now))
+
+same-length : tie.Need-same-length
+same-length c = search needs
+
+returns : tie.Need-returns
+unfolding line
+returns c =
+    let s = c .before .before .before .before .before .before .before .before .before .before .before .before .before .before .before .before .args in
+    let ns = s .words .now ++ s .indices .now in
+    put-front
+    (put-append (s .head .now ++ joined ns) (newline ∷ [])
+    (put-append (s .head .now) (joined ns) (c .before .before .before .before .before .before .before .before .before .before .put-bytes .ensures) (c .before .before .before .before .before .before .put-joined .ensures))
+    (c .before .before .put-byte .ensures))
+    (c .before .before .before .before .before .before .before .before .before .before .before .before .before .before .before .before .pre)
+
+pub put-line-spec : {M : Type 1} → statement M
+put-line-spec =
+    tie.close
+    (tie.spec put-bytes-requires put-joined-requires put-byte-requires same-length returns)
