@@ -2,15 +2,15 @@
 -- Assumes nothing.
 use mathlib.Core.Path.{_≡_, refl, sym, ap, subst, _∙_}
 use mathlib.Core.Bool.{Bool, true, false}
-use mathlib.Core.List.{List, [], _∷_, _++_}
+use mathlib.Core.List.{List, [], _∷_, _++_, append-assoc}
 use mathlib.Core.Logic.{_⊎_, inl, inr, ⊎-elim}
 use Prim.Native.Nat.{ℕ, zero, suc, _+_, _*_, _/_, _%_, _^_, _≤_, _<_, zero-le}
 use native.Mathlib.Decide.{decLt}
-use native.Mathlib.Nat.{div-lt-iff-lt-mul, lt-of-not-le, le-refl, not-suc-le-zero, pow-suc, pow-zero}
+use native.Mathlib.Nat.{div-lt-iff-lt-mul, lt-of-lt-of-le, le-refl, not-suc-le-zero, pow-suc, pow-zero}
 use native.Mathlib.Numerals.{add-one}
 use native.Mathlib.Omega.{arith}
 use borrow.Author.Tests.{lt-ltb, le-ltb}
-use lib.Dec.{lit<}
+use lib.Dec.{lit<, lit≤}
 use lib.ListN.{length, drop, getD, length-append, drop-of-length-le}
 use lib.Seq.{drop-cons}
 use Rattle.sheet.specs.Line.{decimal, decimalWithin, digit, joined, line, newline, separated, space, spaced}
@@ -116,9 +116,28 @@ spaced-length k [] h l = zero-le
 spaced-length k (n ∷ ns) h l =
     rw (length-append (decimal n) (spaced ns)) (omega (arith, decimal-length k h (l 0), spaced-length k ns h (λ i. l (suc i))))
 
--- numbers with one space between take no more
-pub joined-length : (k : ℕ) (ns : List ℕ) → 0 < k → ((i : ℕ) → getD ns i 0 < 10 ^ k) → length (joined ns) ≤ (k + 1) * length ns
-unfolding joined
-joined-length k [] h l = zero-le
-joined-length k (n ∷ ns) h l =
-    rw (length-append (decimal n) (spaced ns)) (omega (arith, decimal-length k h (l 0), spaced-length k ns h (λ i. l (suc i))))
+-- spaced numbers, in two parts
+spaced-append : (xs ys : List ℕ) → spaced (xs ++ ys) ≡ spaced xs ++ spaced ys
+unfolding spaced
+spaced-append [] ys = refl
+spaced-append (x ∷ xs) ys =
+    ap (λ (l : List ℕ). space ∷ decimal x ++ l) (spaced-append xs ys) ∙ sym (append-assoc (space ∷ decimal x) (spaced xs) (spaced ys))
+
+-- without a space before the first, there is a byte less
+joined-spaced : (ns : List ℕ) → length (joined ns) ≤ length (spaced ns)
+unfolding joined spaced
+joined-spaced [] = zero-le
+joined-spaced (n ∷ ns) = omega arith
+
+-- words have at most 20 digits and indices at most 10
+pub joined-length : (words indices : List ℕ)
+    → ((i : ℕ) → getD words i 0 < 2 ^ 64) → ((i : ℕ) → getD indices i 0 < 2 ^ 32)
+    → length (joined (words ++ indices)) ≤ 21 * length words + 11 * length indices
+joined-length words indices hw hi =
+    omega (
+      arith,
+      joined-spaced (words ++ indices),
+      ap length (spaced-append words indices) ∙ length-append (spaced words) (spaced indices),
+      spaced-length 20 words (lit< tt) (λ i. lt-of-lt-of-le (hw i) (lit≤ tt)),
+      spaced-length 10 indices (lit< tt) (λ i. lt-of-lt-of-le (hi i) (lit≤ tt)),
+    )

@@ -18,8 +18,8 @@ sets-append l at (x ∷ xs) ys = rw (add-suc at (length xs), ← suc-add at (len
 pub put-append : {k l m : List ℕ} {at next end : ℕ} (xs ys : List ℕ)
     → Put k at xs l next → Put l next ys m end → Put k at (xs ++ ys) m end
 put-append {k} {at = at} xs ys p q = record {
-  stored = q .stored ∙ rw (p .stored, p .place) (sets-append k at xs ys)
-  ; place = q .place ∙ rw (p .place, length-append xs ys) (add-assoc at (length xs) (length ys))
+  stored = q .stored ∙ rw (p .stored, p .place) (sets-append k at xs ys);
+  place = q .place ∙ rw (p .place, length-append xs ys) (add-assoc at (length xs) (length ys));
 }
 
 -- what is still to be written after a call, as a part of what was to be written before it
@@ -29,6 +29,6 @@ put-rest {l} {at = at} {xs = xs} ys p = rw (p .stored, p .place) (sets-append l 
 -- from the beginning of a list on that is long enough: the bytes, and then what stood after them
 pub put-front : {k l : List ℕ} {end : ℕ} {xs : List ℕ} → Put k 0 xs l end → length xs ≤ length k → Front k xs l end
 put-front {k} {xs = xs} p h = record {
-  stored = p .stored ∙ sets-eq xs k 0 (rw (zero-add (length xs)) h) ∙ ap (λ (n : ℕ). xs ++ drop n k) (zero-add (length xs))
-  ; counted = p .place ∙ zero-add (length xs)
+  stored = p .stored ∙ sets-eq xs k 0 (rw (zero-add (length xs)) h) ∙ ap (λ (n : ℕ). xs ++ drop n k) (zero-add (length xs));
+  counted = p .place ∙ zero-add (length xs);
 }

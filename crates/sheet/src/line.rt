@@ -5,7 +5,7 @@ use crate::put::put_bytes;
 use crate::put::put_decimal;
 ghost use mathlib.Core.Path.{_≡_};
 ghost use mathlib.Core.List.{_++_};
-ghost use Prim.Native.Nat.{_+_, _<_, _≤_};
+ghost use Prim.Native.Nat.{_+_, _*_, _<_, _≤_};
 ghost use lib.ListN.{length, getD};
 ghost use Rattle.sheet.specs.Line.{digestLine, drawLine, joined, line, refusedLine, separated};
 ghost use Rattle.sheet.specs.Put.{Put, Front};
@@ -47,9 +47,10 @@ fn put_joined(words: &[u64], indices: &[u32], out: &mut [u8], at: usize) -> usiz
     next
 }
 
-// A line of a head and numbers, which are words and then indices.
+// A line of a head and numbers, which are words and then indices. A word has at most 20 digits and
+// an index at most 10, and each takes one byte more for the space before it.
 fn put_line(head: &[u8], words: &[u64], indices: &[u32], out: &mut [u8]) -> usize
-    requires { ⌜ length (line (now head) (now words ++ now indices)) ≤ length (now out) ⌝ }
+    requires { ⌜ length (now head) + 21 * length (now words) + 11 * length (now indices) < length (now out) ⌝ }
     ensures { λ r. ⌜ Front (now (out .entry)) (line (now (head .entry)) (now (words .entry) ++ now (indices .entry))) (now (out .exit)) r ⌝ }
 {
     let first = put_bytes(head, out, 0);

@@ -48,7 +48,7 @@ loop-again c =
     let l = c .before .before .before .loop in (
       omega arith,
       l .inv .1 ∙ rw (tab-next (s .n) (l .i) (value (s .sheet .now)) (omega arith), ← c .before .value .ensures)
-      (simp (lt-ltb _ _ (c .if1 .left))),
+          (simp (lt-ltb _ _ (c .if1 .left))),
     )
 
 returns-2 : tie.Need-returns-2 Inv-loop μ-loop

@@ -1,29 +1,34 @@
 -- `line::put_line` meets its contract: its three parts are written one after another, from the front on.
 -- Assumes nothing.
 use mathlib.Core.List.{[], _∷_, _++_}
+use Prim.Native.Nat.{_+_, _*_, _≤_}
 use native.Mathlib.Omega.{arith}
 use borrow.Author.Needs.{needs}
+use denote.Ref.{now}
 use lib.ListN.{length}
 use Rattle.sheet.specs.Line.{joined, line, newline}
-use Rattle.sheet.proofs.LineLaws.{line-length}
+use Rattle.sheet.proofs.LineLaws.{joined-length, line-length}
 use Rattle.sheet.proofs.PutLaws.{put-append, put-front}
 use Rattle.sheet.proofs.line.put_line.Statement.{statement}
 use Rattle.sheet.proofs.line.put_line.Tie as tie
 
+-- where all that is known of the slices is known: the numbers take no more room than they have
+numbers-fit : (c : tie.After-slice-known)
+    → length (joined (now (c .before .before .before .before .args .words) ++ now (c .before .before .before .before .args .indices)))
+    ≤ 21 * length (now (c .before .before .before .before .args .words)) + 11 * length (now (c .before .before .before .before .args .indices))
+numbers-fit c =
+    joined-length (now (c .before .before .before .before .args .words)) (now (c .before .before .before .before .args .indices))
+    (λ i. omega (arith, c .before .before .shared-slice-known2 .given i))
+    (λ i. omega (arith, c .before .shared-slice-known3 .given i))
+
 put-bytes-requires : tie.Need-put-bytes-requires
-put-bytes-requires c κs =
-    let s = c .before .before .before .before .before .args in
-    omega (arith, line-length (s .head .now) (s .words .now ++ s .indices .now))
+put-bytes-requires c κs = omega arith
 
 put-joined-requires : tie.Need-put-joined-requires
-put-joined-requires c κs =
-    let s = c .before .before .before .before .before .before .before .before .before .args in
-    omega (arith, line-length (s .head .now) (s .words .now ++ s .indices .now))
+put-joined-requires c κs = omega (arith, numbers-fit (c .before .before .before .before .before))
 
 put-byte-requires : tie.Need-put-byte-requires
-put-byte-requires c κs =
-    let s = c .before .before .before .before .before .before .before .before .before .before .before .before .before .args in
-    omega (arith, line-length (s .head .now) (s .words .now ++ s .indices .now))
+put-byte-requires c κs = omega (arith, numbers-fit (c .before .before .before .before .before .before .before .before .before))
 
 same-length : tie.Need-same-length
 same-length c = search needs
@@ -37,7 +42,7 @@ returns c =
     (put-append (s .head .now ++ joined ns) (newline ∷ [])
     (put-append (s .head .now) (joined ns) (c .before .before .before .before .before .before .before .before .before .before .put-bytes .ensures) (c .before .before .before .before .before .before .put-joined .ensures))
     (c .before .before .put-byte .ensures))
-    (c .before .before .before .before .before .before .before .before .before .before .before .before .before .before .before .before .pre)
+    (omega (arith, numbers-fit (c .before .before .before .before .before .before .before .before .before .before .before .before), line-length (s .head .now) ns))
 
 pub put-line-spec : {M : Type 1} → statement M
 put-line-spec =

@@ -55,8 +55,8 @@ returns c =
     let s = c .before .before .args in
     let l = c .before .loop in
     record {
-      stored = rw (drop-of-length-le (s .bytes .now) {i = l .i} (omega arith)) at (l .inv .2)
-      ; place = omega arith
+      stored = rw (drop-of-length-le (s .bytes .now) {i = l .i} (omega arith)) at (l .inv .2);
+      place = omega arith;
     }
 
 pub put-bytes-spec : {M : Type 1} → statement M
