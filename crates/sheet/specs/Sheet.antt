@@ -36,10 +36,19 @@ wordsOf n sheet = tab n 0 (λ i. rawOf (value sheet i))
 abbrev pub shortRefusal : (sheet : List ℕ) → ℕ
 shortRefusal sheet = cond (ltb (length sheet) 6) 4 0
 
--- refusal 5, a clause for each field that is judged. The log2, index and allowance fields of a digest sheet are not.
+-- a digest sheet does not use its log2, index and allowance fields, and whatever stands there is accepted
+abbrev pub unusedRefusal : Header → ℕ
+unusedRefusal h = 0
+
+-- refusal 5 for a header that no sheet has
 abbrev pub fieldRefusal : Header → ℕ
 fieldRefusal h =
-    first (cond (eqb (h .version) 1) 0 5 ∷ cond (ltb (h .job) 2) 0 5 ∷ cond (leb (h .elements) elementLimit) 0 5 ∷ [])
+    first
+    (cond (eqb (h .version) 1) 0 5
+    ∷ cond (ltb (h .job) 2) 0 5
+    ∷ cond (leb (h .elements) elementLimit) 0 5
+    ∷ unusedRefusal h
+    ∷ [])
 
 -- refusal 4 for a sheet that is not as long as its number of elements says
 abbrev pub lengthRefusal : (elements : ℕ) (sheet : List ℕ) → ℕ
@@ -51,7 +60,12 @@ valueRefusal n sheet = wordRefusal (valuesOf n sheet)
 
 -- the refusals of a sheet with the header h, in their order
 abbrev pub refusals : (h : Header) (sheet : List ℕ) → List ℕ
-refusals h sheet = shortRefusal sheet ∷ fieldRefusal h ∷ lengthRefusal (h .elements) sheet ∷ valueRefusal (h .elements) sheet ∷ []
+refusals h sheet =
+    shortRefusal sheet
+    ∷ fieldRefusal h
+    ∷ lengthRefusal (h .elements) sheet
+    ∷ valueRefusal (h .elements) sheet
+    ∷ []
 
 -- the refusal of a sheet, 0 for none
 abbrev pub sheetRefusal : (sheet : List ℕ) → ℕ

@@ -2,7 +2,6 @@
 use crate::bits::field;
 use tip5::refusal;
 ghost use mathlib.Core.Path.{_≡_};
-ghost use Prim.Native.Nat.{_≤_};
 ghost use lib.ListN.{length};
 ghost use Rattle.sheet.specs.Header.{header};
 ghost use Rattle.sheet.specs.Sheet.{readHeader, refusedSheet};

@@ -14,8 +14,8 @@ ghost use Rattle.sheet.specs.Sheet.{fieldRefusal, judgeSheet, valueRefus
 // The most elements that a sheet may have.
 const ELEMENT_LIMIT: usize = 4096;
 
-// Refusal 5, a clause for each field that is judged. The log2, index and allowance fields of a
-// digest sheet are not.
+// Refusal 5 for a header that no sheet has. A digest sheet's log2, index and allowance fields are
+// not judged.
 fn judge_fields(h: Header) -> u8
     ensures { λ r. ⌜ r ≡ fieldRefusal h ⌝ }
 {

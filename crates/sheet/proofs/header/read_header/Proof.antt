@@ -1,14 +1,11 @@
 -- `header::read_header` meets its contract.
 -- Assumes nothing.
-use mathlib.Core.Path.{_≡_, sym, ap, _∙_}
-use Prim.Native.Nat.{ℕ}
+use mathlib.Core.Path.{sym, ap, _∙_}
 use native.Mathlib.Omega.{arith}
 use borrow.Author.Needs.{needs}
 use borrow.Author.Tests.{lt-ltb, le-ltb}
-use lib.ListN.{length, take}
 use lib.Seq.{length-take-le}
 use Rattle.sheet.specs.declared.header.Header.{Header}
-use Rattle.sheet.specs.declared.header.HeaderAnswer.{HeaderAnswer}
 use Rattle.sheet.proofs.header.read_header.Statement.{statement}
 use Rattle.sheet.proofs.header.read_header.Tie as tie
 

@@ -36,13 +36,16 @@ same-length c = search needs
 returns : tie.Need-returns
 unfolding line
 returns c =
-    let s = c .before .before .before .before .before .before .before .before .before .before .before .before .before .before .before .before .args in
+    let joined-put = c .before .before .before .before .before .before in
+    let head-put = joined-put .before .before .before .before in
+    let known = head-put .before .before in
+    let s = known .before .before .before .before .args in
     let ns = s .words .now ++ s .indices .now in
     put-front
     (put-append (s .head .now ++ joined ns) (newline ∷ [])
-    (put-append (s .head .now) (joined ns) (c .before .before .before .before .before .before .before .before .before .before .put-bytes .ensures) (c .before .before .before .before .before .before .put-joined .ensures))
+    (put-append (s .head .now) (joined ns) (head-put .put-bytes .ensures) (joined-put .put-joined .ensures))
     (c .before .before .put-byte .ensures))
-    (omega (arith, numbers-fit (c .before .before .before .before .before .before .before .before .before .before .before .before), line-length (s .head .now) ns))
+    (omega (arith, numbers-fit known, line-length (s .head .now) ns))
 
 pub put-line-spec : {M : Type 1} → statement M
 put-line-spec =

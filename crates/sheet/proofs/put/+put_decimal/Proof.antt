@@ -1,6 +1,6 @@
 -- `put::put_decimal` meets its contract. It calls itself at a tenth of its number.
 -- Assumes nothing.
-use mathlib.Core.Path.{_≡_, ap, _∙_}
+use mathlib.Core.Path.{ap}
 use mathlib.Core.List.{[], _∷_}
 use Prim.Native.Nat.{ℕ, _/_, _<_}
 use native.Mathlib.Omega.{arith}
@@ -30,108 +30,48 @@ put-decimal-at t = and 1 put-decimal-kinds.ps (is 1 put-decimal-kinds.ps μ-put-
 abbrev put-decimal-below : ℕ → In 1 put-decimal-kinds.ps
 put-decimal-below t = and 1 put-decimal-kinds.ps (falls 1 put-decimal-kinds.ps _<_ μ-put-decimal t) put-decimal.Pre
 
-digit-requires : (t : ℕ) → put-decimal-lts.Need-digit-requires (
-  digit-reads.Asked,
-  digit-reads.Learnt,
-  put-byte-reads.Asked,
-  put-byte-reads.Learnt,
-  put-decimal-below t,
-  put-decimal.Post,
-) (put-decimal-at t) put-decimal.Post
+-- what it may use of the functions that it calls
+abbrev calls : ℕ → put-decimal-lts.Claims
+calls t = (digit-reads.Asked, digit-reads.Learnt, put-byte-reads.Asked, put-byte-reads.Learnt, put-decimal-below t, put-decimal.Post)
+
+digit-requires : (t : ℕ) → put-decimal-lts.Need-digit-requires (calls t) (put-decimal-at t) put-decimal.Post
 digit-requires t c κs = search needs
 
-put-byte-requires : (t : ℕ) → put-decimal-lts.Need-put-byte-requires (
-  digit-reads.Asked,
-  digit-reads.Learnt,
-  put-byte-reads.Asked,
-  put-byte-reads.Learnt,
-  put-decimal-below t,
-  put-decimal.Post,
-) (put-decimal-at t) put-decimal.Post
+put-byte-requires : (t : ℕ) → put-decimal-lts.Need-put-byte-requires (calls t) (put-decimal-at t) put-decimal.Post
 put-byte-requires t c κs = omega (arith, ap length (decimal-small (c .before .before .if1 .taken)))
 
-same-length : (t : ℕ) → put-decimal-lts.Need-same-length (
-  digit-reads.Asked,
-  digit-reads.Learnt,
-  put-byte-reads.Asked,
-  put-byte-reads.Learnt,
-  put-decimal-below t,
-  put-decimal.Post,
-) (put-decimal-at t) put-decimal.Post
+same-length : (t : ℕ) → put-decimal-lts.Need-same-length (calls t) (put-decimal-at t) put-decimal.Post
 same-length t c = search needs
 
-returns : (t : ℕ) → put-decimal-lts.Need-returns (
-  digit-reads.Asked,
-  digit-reads.Learnt,
-  put-byte-reads.Asked,
-  put-byte-reads.Learnt,
-  put-decimal-below t,
-  put-decimal.Post,
-) (put-decimal-at t) put-decimal.Post
-returns t c = rw (decimal-small (c .before .before .before .before .before .if1 .taken), ← c .before .before .before .before .digit .ensures) (c .before .before .put-byte .ensures)
+returns : (t : ℕ) → put-decimal-lts.Need-returns (calls t) (put-decimal-at t) put-decimal.Post
+returns t c =
+    let byte-put = c .before .before in
+    let tested = byte-put .before .before .before in
+    rw (decimal-small (tested .if1 .taken), ← byte-put .before .before .digit .ensures) (byte-put .put-byte .ensures)
 
-put-decimal-requires : (t : ℕ) → put-decimal-lts.Need-put-decimal-requires (
-  digit-reads.Asked,
-  digit-reads.Learnt,
-  put-byte-reads.Asked,
-  put-byte-reads.Learnt,
-  put-decimal-below t,
-  put-decimal.Post,
-) (put-decimal-at t) put-decimal.Post
+put-decimal-requires : (t : ℕ) → put-decimal-lts.Need-put-decimal-requires (calls t) (put-decimal-at t) put-decimal.Post
 put-decimal-requires t c κs = omega (arith, large-length (c .before .if1 .left))
 
-digit-requires-2 : (t : ℕ) → put-decimal-lts.Need-digit-requires-2 (
-  digit-reads.Asked,
-  digit-reads.Learnt,
-  put-byte-reads.Asked,
-  put-byte-reads.Learnt,
-  put-decimal-below t,
-  put-decimal.Post,
-) (put-decimal-at t) put-decimal.Post
+digit-requires-2 : (t : ℕ) → put-decimal-lts.Need-digit-requires-2 (calls t) (put-decimal-at t) put-decimal.Post
 digit-requires-2 t c κs = search needs
 
-put-byte-requires-2 : (t : ℕ) → put-decimal-lts.Need-put-byte-requires-2 (
-  digit-reads.Asked,
-  digit-reads.Learnt,
-  put-byte-reads.Asked,
-  put-byte-reads.Learnt,
-  put-decimal-below t,
-  put-decimal.Post,
-) (put-decimal-at t) put-decimal.Post
+put-byte-requires-2 : (t : ℕ) → put-decimal-lts.Need-put-byte-requires-2 (calls t) (put-decimal-at t) put-decimal.Post
 put-byte-requires-2 t c κs = omega (arith, large-length (c .before .before .before .before .before .before .if1 .left))
 
-same-length-2 : (t : ℕ) → put-decimal-lts.Need-same-length-2 (
-  digit-reads.Asked,
-  digit-reads.Learnt,
-  put-byte-reads.Asked,
-  put-byte-reads.Learnt,
-  put-decimal-below t,
-  put-decimal.Post,
-) (put-decimal-at t) put-decimal.Post
+same-length-2 : (t : ℕ) → put-decimal-lts.Need-same-length-2 (calls t) (put-decimal-at t) put-decimal.Post
 same-length-2 t c = search needs
 
-returns-2 : (t : ℕ) → put-decimal-lts.Need-returns-2 (
-  digit-reads.Asked,
-  digit-reads.Learnt,
-  put-byte-reads.Asked,
-  put-byte-reads.Learnt,
-  put-decimal-below t,
-  put-decimal.Post,
-) (put-decimal-at t) put-decimal.Post
+returns-2 : (t : ℕ) → put-decimal-lts.Need-returns-2 (calls t) (put-decimal-at t) put-decimal.Post
 returns-2 t c =
-    let d = c .before .before .before .before .digit2 in
-    rw (decimal-large (c .before .before .before .before .before .before .before .before .before .if1 .left), ← d .ensures)
-    (put-append (decimal (c .before .before .before .before .before .before .before .before .before .before .before .args .n / 10)) (d .result ∷ []) (c .before .before .before .before .before .before .before .put-decimal .ensures) (c .before .before .put-byte2 .ensures))
+    let byte-put = c .before .before in
+    let d = byte-put .before .before .digit2 in
+    let tenth-put = byte-put .before .before .before .before .before in
+    let tested = tenth-put .before .before in
+    rw (decimal-large (tested .if1 .left), ← d .ensures)
+    (put-append (decimal (tested .before .before .args .n / 10)) (d .result ∷ []) (tenth-put .put-decimal .ensures) (byte-put .put-byte2 .ensures))
 
 pub +put-decimal-spec : {M : Type 1} → statement M
-+put-decimal-spec = close μ-put-decimal λ t. put-decimal-lts.spec (
-  digit-reads.Asked,
-  digit-reads.Learnt,
-  put-byte-reads.Asked,
-  put-byte-reads.Learnt,
-  put-decimal-below t,
-  put-decimal.Post,
-) (put-decimal-at t) put-decimal.Post
++put-decimal-spec = close μ-put-decimal λ t. put-decimal-lts.spec (calls t) (put-decimal-at t) put-decimal.Post
     (digit-requires t)
     (put-byte-requires t)
     (same-length t)
