@@ -40,15 +40,17 @@ shortRefusal sheet = cond (ltb (length sheet) 6) 4 0
 abbrev pub unusedRefusal : Header → ℕ
 unusedRefusal h = 0
 
--- refusal 5 for a header that no sheet has
-abbrev pub fieldRefusal : Header → ℕ
-fieldRefusal h =
-    first
-    (cond (eqb (h .version) 1) 0 5
+-- refusal 5 for a header that no sheet has, clause by clause
+abbrev pub fieldRefusals : Header → List ℕ
+fieldRefusals h =
+    cond (eqb (h .version) 1) 0 5
     ∷ cond (ltb (h .job) 2) 0 5
     ∷ cond (leb (h .elements) elementLimit) 0 5
     ∷ unusedRefusal h
-    ∷ [])
+    ∷ []
+
+abbrev pub fieldRefusal : Header → ℕ
+fieldRefusal h = first (fieldRefusals h)
 
 -- refusal 4 for a sheet that is not as long as its number of elements says
 abbrev pub lengthRefusal : (elements : ℕ) (sheet : List ℕ) → ℕ

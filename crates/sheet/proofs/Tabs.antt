@@ -1,4 +1,4 @@
--- The laws of a sheet's elements.
+-- What is left of a list that is made by a function of its places, as a loop over it goes on.
 -- Assumes nothing.
 use mathlib.Core.Path.{_≡_, sym, ap, _∙_}
 use mathlib.Core.List.{[], _∷_}
@@ -7,7 +7,7 @@ use native.Mathlib.Numerals.{add-one}
 use native.Mathlib.Omega.{arith}
 use Rattle.numbers.specs.Lists.{tab}
 
--- what is left of a list that is made by a function of its places: the next entry, and what is left then
+-- the next entry, and what is left then
 pub tab-next : (n i : ℕ) (f : ℕ → ℕ) → i < n → tab (n - i) i f ≡ f i ∷ tab (n - (i + 1)) (i + 1) f
 tab-next n i f h =
     let e : n - i ≡ suc (n - (i + 1)) = omega arith in
