@@ -34,7 +34,14 @@ field-requires-6 : tie.Need-field-requires-6
 field-requires-6 c κs = search needs
 
 returns : tie.Need-returns
-returns c = cc
+returns c = λ i. record {
+  version = c .before .before .before .before .before .field .ensures i;
+  job = c .before .before .before .before .field2 .ensures i;
+  log2 = c .before .before .before .field3 .ensures i;
+  elements = c .before .before .field4 .ensures i;
+  indices = c .before .field5 .ensures i;
+  allowance = c .field6 .ensures i;
+}
 
 pub fields-spec : {M : Type 1} → statement M
 fields-spec =
