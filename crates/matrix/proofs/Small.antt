@@ -1,4 +1,4 @@
--- Of sixteen words below 2^32 the row sums are so small that 16 times one of them is a word: nothing wraps, and a sixteenth is the row sum.
+-- Of words below 2^32 the row sums are so small that 16 times one of them is a word: nothing wraps, and a sixteenth is the row sum.
 -- Assumes nothing.
 use mathlib.Core.Path.{_≡_, ap, _∙_}
 use mathlib.Core.List.{List}
@@ -35,13 +35,15 @@ module _ (s : List ℕ) (small : (k : ℕ) → getD s k 0 < 2 ^ 32) where
       le-trans (total-le 16 0 λ c. mul-le-mul-left (entry i c) (le-pred-of-lt (small c)))
       (le-of-eq (total-mul-right 16 0 (2 ^ 32 - 1) (entry i) ∙ ap (λ (n : ℕ). n * (2 ^ 32 - 1)) (row-weight i h)))
 
+  -- the same of every row
   pub rowSum-small : (i : ℕ) → rowSum mdsColumn s i ≤ 524757 * (2 ^ 32 - 1)
   rowSum-small i = rw (row-again mdsColumn s i) (row-le (i % 16) (mod-lt i (lit< tt)))
 
+  -- 16 times it leaves room in a word
   pub generated-small : (i : ℕ) → 16 * rowSum mdsColumn s i < 2 ^ 56
   generated-small i = omega (arith, rowSum-small i)
 
-  -- so 16 times it does not wrap
+  -- so that it does not wrap
   pub generated-exact : (i : ℕ) → (16 * rowSum mdsColumn s i) % 2 ^ 64 ≡ 16 * rowSum mdsColumn s i
   generated-exact i = mod-eq-of-lt (omega (arith, rowSum-small i))
 

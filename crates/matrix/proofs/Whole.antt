@@ -1,5 +1,4 @@
--- The last step of the whole function's proof: a word whose coefficients agree modulo 2^64 with 16 times a row of the circulant is 16 times
--- the row sum.
+-- The last step of the whole function's proof: from coefficients to the row sum of the contract.
 -- Assumes nothing.
 use mathlib.Core.Path.{_≡_, refl, ap, _∙_}
 use mathlib.Core.List.{List}
@@ -20,7 +19,10 @@ row-sum : (s : List ℕ) (r : ℕ) → dot (circulantRow r) s 0 ≡ rowSum mdsCo
 unfolding rowSum
 row-sum s r = refl
 
-pub whole-row : {s a : List ℕ} {w : ℕ} → Form (2 ^ 64) s a w → w < 2 ^ 64 → (r : ℕ) → reduced (2 ^ 64) a ≡ reduced (2 ^ 64) (16 ⊛ circulantRow r) → w ≡ (16 * rowSum mdsColumn s r) % 2 ^ 64
+-- a word whose coefficients are 16 times that row, modulo 2^64
+pub whole-row : {s a : List ℕ} {w : ℕ} → Form (2 ^ 64) s a w → w < 2 ^ 64
+    → (r : ℕ) → reduced (2 ^ 64) a ≡ reduced (2 ^ 64) (16 ⊛ circulantRow r)
+    → w ≡ (16 * rowSum mdsColumn s r) % 2 ^ 64
 whole-row {s} p w< r e =
     form-word p w< (16 ⊛ circulantRow r) e
     ∙ ap (λ (n : ℕ). n % 2 ^ 64) (dot-multiple 16 (circulantRow r) s 0 ∙ ap (λ (n : ℕ). 16 * n) (row-sum s r))

@@ -18,10 +18,11 @@ foldMatrix n = rows 8 0 (λ r. unit r ⊕ n ⊛ unit (8 + r))
 abbrev pub foldedRow : (n r : ℕ) → List ℕ
 foldedRow n r = tab 8 0 (λ c. 8 * (entry r c + n * entry r (8 + c)))
 
--- sums and differences of words eight places apart
+-- the sums of words eight places apart
 abbrev pub sumsMatrix : List (List ℕ)
 sumsMatrix = foldMatrix 1
 
+-- the differences of words eight places apart
 abbrev pub differencesMatrix : List (List ℕ)
 differencesMatrix = foldMatrix (2 ^ 64 - 1)
 
@@ -29,9 +30,10 @@ differencesMatrix = foldMatrix (2 ^ 64 - 1)
 abbrev pub cyclicMatrix : List (List ℕ)
 cyclicMatrix = rows 8 0 (λ r. foldedRow 1 r)
 
--- eight differences to words 0, 2, 4, 6 and to words 1, 3, 5, 7 of the negacyclic half
+-- eight differences to words 0, 2, 4, 6 of the negacyclic half
 abbrev pub evenMatrix : List (List ℕ)
 evenMatrix = rows 4 0 (λ k. foldedRow (2 ^ 64 - 1) (2 * k))
 
+-- eight differences to words 1, 3, 5, 7 of the negacyclic half
 abbrev pub oddMatrix : List (List ℕ)
 oddMatrix = rows 4 0 (λ k. foldedRow (2 ^ 64 - 1) (2 * k + 1))

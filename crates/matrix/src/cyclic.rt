@@ -7,7 +7,8 @@ ghost use Prim.Native.Nat.{_^_};
 ghost use Rattle.numbers.specs.Linear.{times};
 ghost use Rattle.matrix.specs.Parts.{cyclicMatrix};
 
-// node_152, 154, 156, 158, 153, 155, 157, 159. A pair is a sum of two nodes that two nodes use.
+// node_152, 154, 156, 158, 153, 155, 157, 159. A pair is the sum of two products, a part a longer
+// sum; each stands inside nodes of the Rust function, and is named after the first node in it.
 pub(crate) fn cyclic(sums: [u64; 8]) -> [u64; 8]
     ensures { λ r. ⌜ r ≡ times (2 ^ 64) cyclicMatrix sums ⌝ }
 {
@@ -46,34 +47,25 @@ pub(crate) fn cyclic(sums: [u64; 8]) -> [u64; 8]
     let pair_1965 = add(mul(node_92, 179380), mul(node_93, 18446744073709509368));
     let node_98 = add(node_90, node_92);
     let node_86 = add(node_69, node_397);
-    let node_403 = sub(
-        node_1857,
-        add(
-            sub(
-                sub(mul(node_99, 18446744073709433780), node_1865),
-                node_1869,
-            ),
-            node_1873,
+    let part_99 = add(
+        sub(
+            sub(mul(node_99, 18446744073709433780), node_1865),
+            node_1869,
         ),
+        node_1873,
     );
+    let node_403 = sub(node_1857, part_99);
     let node_88 = add(node_70, node_702);
     let node_708 = sub(pair_1961, pair_1965);
     let node_87 = sub(node_69, node_397);
-    let node_897 = sub(
-        sub(
-            sub(add(node_1865, mul(node_98, 353264)), node_1857),
-            node_1873,
-        ),
-        node_1869,
+    let part_1865 = sub(
+        sub(add(node_1865, mul(node_98, 353264)), node_1857),
+        node_1873,
     );
+    let node_897 = sub(part_1865, node_1869);
     let node_89 = sub(node_70, node_702);
-    let node_1077 = sub(
-        sub(
-            add(mul(node_98, 18446744073709433780), mul(node_99, 353264)),
-            pair_1961,
-        ),
-        pair_1965,
-    );
+    let pair_98 = add(mul(node_98, 18446744073709433780), mul(node_99, 353264));
+    let node_1077 = sub(sub(pair_98, pair_1961), pair_1965);
     [
         add(node_86, node_403),
         add(node_88, node_708),

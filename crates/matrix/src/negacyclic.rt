@@ -8,8 +8,8 @@ ghost use Prim.Native.Nat.{_^_};
 ghost use Rattle.numbers.specs.Linear.{times};
 ghost use Rattle.matrix.specs.Parts.{evenMatrix, oddMatrix};
 
-// Words 0, 2, 4, 6: node_412, 906, 1237, 1492. A part is a sum that two of them use, named after
-// its first node.
+// Words 0, 2, 4, 6: node_412, 906, 1237, 1492. A part or a sum stands inside nodes of the Rust
+// function, and is named after the first node in it.
 pub(crate) fn negacyclic_even(differences: [u64; 8]) -> [u64; 4]
     ensures { λ r. ⌜ r ≡ times (2 ^ 64) evenMatrix differences ⌝ }
 {
@@ -51,54 +51,27 @@ pub(crate) fn negacyclic_even(differences: [u64; 8]) -> [u64; 4]
     let part_1933 = add(sub(sub(node_1933, node_1939), node_1945), node_1951);
     let part_1915 = sub(sub(add(node_1915, node_2007), node_1879), node_1927);
     let part_1939 = sub(sub(add(node_1939, node_2013), node_1957), node_1951);
-    let node_412 = sub(
-        node_1879,
-        add(
-            sub(
-                sub(
-                    add(
-                        sub(
-                            sub(mul(node_271, 18446744073709105640), node_1891),
-                            node_1897,
-                        ),
-                        node_1903,
-                    ),
-                    part_1909,
-                ),
-                part_1933,
-            ),
-            node_1957,
-        ),
+    let part_271 = sub(
+        sub(mul(node_271, 18446744073709105640), node_1891),
+        node_1897,
     );
-    let node_906 = sub(
-        part_1915,
-        add(sub(sub(node_1897, node_1921), node_1945), part_1939),
+    let sum_271 = sub(sub(add(part_271, node_1903), part_1909), part_1933);
+    let node_412 = sub(node_1879, add(sum_271, node_1957));
+    let part_1897 = add(sub(sub(node_1897, node_1921), node_1945), part_1939);
+    let node_906 = sub(part_1915, part_1897);
+    let sum_1909 = sub(sub(add(part_1909, node_2035), node_1879), node_1957);
+    let node_1237 = sub(sum_1909, part_1933);
+    let part_1891 = sub(
+        sub(add(node_1891, mul(node_270, 114800)), node_2035),
+        node_1903,
     );
-    let node_1237 = sub(
-        sub(sub(add(part_1909, node_2035), node_1879), node_1957),
-        part_1933,
-    );
-    let node_1492 = sub(
-        sub(
-            sub(
-                add(
-                    node_1921,
-                    sub(
-                        sub(add(node_1891, mul(node_270, 114800)), node_2035),
-                        node_1903,
-                    ),
-                ),
-                part_1915,
-            ),
-            part_1939,
-        ),
-        node_1945,
-    );
+    let sum_1921 = sub(sub(add(node_1921, part_1891), part_1915), part_1939);
+    let node_1492 = sub(sum_1921, node_1945);
     [node_412, node_906, node_1237, node_1492]
 }
 
-// Words 1, 3, 5, 7: node_717, 1086, 1375, 1657. A pair is the sum of two products that belong
-// together, named after the first.
+// Words 1, 3, 5, 7: node_717, 1086, 1375, 1657. A pair is the sum of two products, a part or a sum
+// a longer one, named after the first node in it.
 pub(crate) fn negacyclic_odd(differences: [u64; 8]) -> [u64; 4]
     ensures { λ r. ⌜ r ≡ times (2 ^ 64) oddMatrix differences ⌝ }
 {
@@ -142,27 +115,13 @@ pub(crate) fn negacyclic_odd(differences: [u64; 8]) -> [u64; 4]
     );
     let part_2020 = sub(sub(pair_2020, pair_1970), pair_1982);
     let part_2026 = sub(sub(pair_2026, pair_1994), pair_1988);
-    let node_717 = sub(
-        pair_1970,
-        add(sub(sub(pair_1976, pair_1982), pair_1988), pair_1994),
-    );
+    let part_1976 = add(sub(sub(pair_1976, pair_1982), pair_1988), pair_1994);
+    let node_717 = sub(pair_1970, part_1976);
     let node_1086 = sub(part_2020, part_2026);
-    let node_1375 = sub(
-        sub(sub(add(pair_1982, pair_2038), pair_1970), pair_1994),
-        pair_1988,
-    );
-    let node_1657 = sub(
-        sub(
-            sub(
-                sub(
-                    add(mul(node_270, 18446744073709105640), mul(node_271, 114800)),
-                    pair_2038,
-                ),
-                pair_1976,
-            ),
-            part_2020,
-        ),
-        part_2026,
-    );
+    let part_1982 = sub(sub(add(pair_1982, pair_2038), pair_1970), pair_1994);
+    let node_1375 = sub(part_1982, pair_1988);
+    let pair_270 = add(mul(node_270, 18446744073709105640), mul(node_271, 114800));
+    let sum_270 = sub(sub(sub(pair_270, pair_2038), pair_1976), part_2020);
+    let node_1657 = sub(sum_270, part_2026);
     [node_717, node_1086, node_1375, node_1657]
 }

@@ -1,4 +1,5 @@
-// Sum, difference and product of two words modulo 2^64, in the form that the laws of linear forms take.
+// Sum, difference and product of two words modulo 2^64. Each contract has the form that the laws
+// of linear forms take.
 use std::num;
 use words::product;
 ghost use mathlib.Core.Path.{_≡_};

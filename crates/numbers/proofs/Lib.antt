@@ -1,6 +1,8 @@
 -- The laws of numbers.
+pub mod Circulant
 pub mod Congruence
 pub mod Divisors
+pub mod Fill
 pub mod Generator
 pub mod Linear
 pub mod Lists

@@ -1,15 +1,25 @@
 -- Linear forms modulo m: a word that sums, differences and multiples make of some words is a row of coefficients times those words.
 -- A proof about such code cites one law for each step, and at the end compares two rows of numbers, which computes.
 -- Assumes nothing.
-use mathlib.Core.Path.{_≡_, refl, sym, ap, _∙_}
+use mathlib.Core.Path.{_≡_, sym, ap, _∙_}
 use mathlib.Core.List.{List, [], _∷_}
 use Prim.Native.Nat.{ℕ, zero, suc, _+_, _-_, _*_, _%_, _<_}
-use native.Mathlib.Nat.{add-suc, add-zero, le-of-lt, mod-eq-of-lt, mod-lt, mod-zero, mul-comm, mul-zero, suc-add, zero-add, zero-lt-suc, zero-mod}
+use native.Mathlib.Nat.{add-suc, add-zero, mod-eq-of-lt, mod-lt, mul-comm, mul-zero, suc-add, zero-add, zero-lt-suc, zero-mod}
 use native.Mathlib.Omega.{arith}
 use lib.ListN.{getD, List·getD-map}
 use Rattle.numbers.specs.Congruence.{Cong}
 use Rattle.numbers.specs.Linear.{unit, _⊕_, _⊛_, dot, times}
-use Rattle.numbers.proofs.Congruence.{cong-refl, cong-sym, cong-trans, cong-eq, cong-mod, cong-multiple, cong-add, cong-add-cancel, cong-mul}
+use Rattle.numbers.proofs.Congruence.{
+  cong-add,
+  cong-add-cancel,
+  cong-eq,
+  cong-mod,
+  cong-mul,
+  cong-multiple,
+  cong-refl,
+  cong-sym,
+  cong-trans,
+}
 
 -- Rows
 
@@ -60,14 +70,15 @@ form-sum {s = s} {a = a} {b = b} p q =
 
 -- a multiple
 pub form-multiple : {m : ℕ} {s a : List ℕ} {x : ℕ} (n : ℕ) → Form m s a x → Form m s (n ⊛ a) (n * x)
-form-multiple {s = s} {a = a} n p = record { cong = cong-trans (cong-mul cong-refl (p .cong)) (cong-eq (sym (dot-multiple n a s 0))) }
+form-multiple {s = s} {a = a} n p =
+    record { cong = cong-trans (cong-mul cong-refl (p .cong)) (cong-eq (sym (dot-multiple n a s 0))) }
 
--- The steps of a program, each a sum, a difference or a product modulo m
+-- The steps of a program
 
 -- what y lacks to m is m - 1 times y
-lack : (m y : ℕ) → Cong m (m - y % m) ((m - 1) * y)
-lack zero y = cong-eq (omega arith)
-lack (suc m) y =
+cong-lack : (m y : ℕ) → Cong m (m - y % m) ((m - 1) * y)
+cong-lack zero y = cong-eq (omega arith)
+cong-lack (suc m) y =
     let r = y % suc m in
     let less : suc m - 1 ≡ m = omega arith in
     let whole : suc m - r + r ≡ 0 + 1 * suc m = omega (arith, mod-lt y (zero-lt-suc m)) in
@@ -78,19 +89,25 @@ lack (suc m) y =
     (cong-trans (cong-eq whole) (cong-trans (cong-multiple 1) (cong-trans (cong-sym (cong-multiple r)) (cong-eq turns)))))
     (cong-mul cong-refl cong-mod))
 
+-- a sum modulo m
 pub form-plus : {m : ℕ} {s a b : List ℕ} {x y r : ℕ} → Form m s a x → Form m s b y → r ≡ (x + y) % m → Form m s (a ⊕ b) r
 form-plus p q e = form-cong (cong-trans (cong-eq e) cong-mod) (form-sum p q)
 
+-- a product with a constant modulo m
 pub form-times : {m : ℕ} {s a : List ℕ} {x r : ℕ} → Form m s a x → (n : ℕ) → r ≡ x * n % m → Form m s (n ⊛ a) r
-form-times {x = x} p n e = form-cong (cong-trans (cong-eq e) (cong-trans cong-mod (cong-eq (mul-comm x n)))) (form-multiple n p)
+form-times {x = x} p n e =
+    form-cong (cong-trans (cong-eq e) (cong-trans cong-mod (cong-eq (mul-comm x n)))) (form-multiple n p)
 
-pub form-minus : {m : ℕ} {s a b : List ℕ} {x y r : ℕ} → Form m s a x → Form m s b y → r ≡ (x + (m - y % m)) % m → Form m s (a ⊕ (m - 1) ⊛ b) r
+-- a difference modulo m
+pub form-minus : {m : ℕ} {s a b : List ℕ} {x y r : ℕ} → Form m s a x → Form m s b y
+    → r ≡ (x + (m - y % m)) % m → Form m s (a ⊕ (m - 1) ⊛ b) r
 form-minus {m} {y = y} p q e =
-    form-cong (cong-trans (cong-eq e) (cong-trans cong-mod (cong-add cong-refl (lack m y)))) (form-sum p (form-multiple (m - 1) q))
+    form-cong (cong-trans (cong-eq e) (cong-trans cong-mod (cong-add cong-refl (cong-lack m y))))
+    (form-sum p (form-multiple (m - 1) q))
 
--- The end: two rows that agree modulo m give the same word
-
-pub form-word : {m : ℕ} {s a : List ℕ} {w : ℕ} → Form m s a w → w < m → (b : List ℕ) → reduced m a ≡ reduced m b → w ≡ dot b s 0 % m
+-- the end: a row that agrees modulo m gives the word itself
+pub form-word : {m : ℕ} {s a : List ℕ} {w : ℕ} → Form m s a w → w < m → (b : List ℕ) → reduced m a ≡ reduced m b
+    → w ≡ dot b s 0 % m
 form-word {m} {s} {a} p w< b e =
     sym (mod-eq-of-lt w<)
     ∙ (p .cong .same)
@@ -111,25 +128,21 @@ pub record Forms (m : ℕ) (s : List ℕ) (rows : List (List ℕ)) (words : List
 
 -- a matrix times words makes such a list
 pub forms-times : {m : ℕ} {s words : List ℕ} (rows : List (List ℕ)) → words ≡ times m rows s → Forms m s rows words
-forms-times {m} {s} rows e =
-    record {
-      form =
-          λ k.
-          record {
-            cong =
-                cong-trans
-                (cong-eq
-                (ap (λ (l : List ℕ). getD l k 0) e
-                ∙ ap (λ (d : ℕ). getD (times m rows s) k d) (sym (zero-mod m))
-                ∙ List·getD-map (λ row. dot row s 0 % m) rows k []))
-                cong-mod;
-          };
-    }
+forms-times {m} {s} {words} rows e = record { form = λ k. record { cong = cong-trans (cong-eq (entry k)) cong-mod } }
+  where
+    entry : (k : ℕ) → getD words k 0 ≡ dot (getD rows k []) s 0 % m
+    entry k =
+        ap (λ (l : List ℕ). getD l k 0) e
+        ∙ ap (λ (d : ℕ). getD (times m rows s) k d) (sym (zero-mod m))
+        ∙ List·getD-map (λ row. dot row s 0 % m) rows k []
 
 -- what a row makes of such words is what one row makes of the words s
-through : {m : ℕ} {s words : List ℕ} {rows : List (List ℕ)} → Forms m s rows words → (a : List ℕ) (k : ℕ) → Form m s (combined a rows k) (dot a words k)
-through f [] k = record { cong = cong-refl }
-through f (x ∷ a) k = form-sum (form-multiple x (f .form k)) (through f a (suc k))
+pub form-combined : {m : ℕ} {s words : List ℕ} {rows : List (List ℕ)} → Forms m s rows words → (a : List ℕ) (k : ℕ)
+    → Form m s (combined a rows k) (dot a words k)
+form-combined f [] k = record { cong = cong-refl }
+form-combined f (x ∷ a) k = form-sum (form-multiple x (f .form k)) (form-combined f a (suc k))
 
-pub form-through : {m : ℕ} {s words a : List ℕ} {rows : List (List ℕ)} {w : ℕ} → Forms m s rows words → Form m words a w → Form m s (combined a rows 0) w
-form-through {a = a} f p = form-cong (p .cong) (through f a 0)
+-- so a form of such words is a form of the words s
+pub form-through : {m : ℕ} {s words a : List ℕ} {rows : List (List ℕ)} {w : ℕ} → Forms m s rows words → Form m words a w
+    → Form m s (combined a rows 0) w
+form-through {a = a} f p = form-cong (p .cong) (form-combined f a 0)

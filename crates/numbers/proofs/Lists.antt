@@ -37,6 +37,12 @@ getD-tab (suc n) i f (suc k) h = getD-tab n (suc i) f k (le-of-suc-le-suc h) ∙
 pub getD-tab₀ : (n : ℕ) (f : ℕ → ℕ) (k : ℕ) → k < n → getD (tab n 0 f) k 0 ≡ f k
 getD-tab₀ n f k h = getD-tab n 0 f k h ∙ ap f (zero-add k)
 
+-- what holds of 0 and of each entry holds of whatever is read off the list, past its end too
+pub getD-tab-all : (Q : ℕ → Type 0) (n i : ℕ) (f : ℕ → ℕ) → Q 0 → ((c : ℕ) → Q (f c)) → (k : ℕ) → Q (getD (tab n i f) k 0)
+getD-tab-all Q zero i f none all k = none
+getD-tab-all Q (suc n) i f none all zero = all i
+getD-tab-all Q (suc n) i f none all (suc k) = getD-tab-all Q n (suc i) f none all k
+
 -- functions that agree on the range make the same list
 pub tab-same : (n i : ℕ) {f g : ℕ → ℕ} → ((c : ℕ) → i ≤ c → c < i + n → f c ≡ g c) → tab n i f ≡ tab n i g
 tab-same zero i e = refl

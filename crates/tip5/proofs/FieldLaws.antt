@@ -2,11 +2,12 @@
 -- Assumes nothing.
 use mathlib.Core.Path.{_≡_, sym, ap, _∙_}
 use Prim.Native.Nat.{ℕ, _+_, _*_, _%_, _^_, _<_}
-use native.Mathlib.Nat.{mod-lt, mul-assoc, mul-comm, mul-left-comm}
+use native.Mathlib.Nat.{mod-lt, mul-assoc, mul-comm, mul-left-comm, one-mul, pow-suc, pow-zero}
 use lib.Dec.{lit<}
+use lib.Pow.{pow-add}
 use Rattle.numbers.specs.Modulus.{P, rInv}
 use Rattle.numbers.specs.Congruence.{Cong}
-use Rattle.numbers.proofs.Congruence.{mod-mul, mod-mul-left, mod-mul-right}
+use Rattle.numbers.proofs.Congruence.{cong-add, cong-refl, mod-mul, mod-mul-left, mod-mul-right}
 use Rattle.numbers.proofs.Montgomery.{raw-value-raw, value-raw-value}
 use Rattle.tip5.specs.Field.{rawOf, valueOf, add, sub, mul, power}
 
@@ -61,3 +62,29 @@ valueOf-mul a b =
     mod-mul-left (a * b * rInv) rInv P
     ∙ ap (λ (n : ℕ). n % P) (simp (mul-assoc, mul-comm, mul-left-comm))
     ∙ mod-mul (a * rInv) (b * rInv) P
+
+-- powers
+
+-- the value of any number's raw word
+pub valueOf-rawOf-mod : (v : ℕ) → valueOf (rawOf v) ≡ v % P
+valueOf-rawOf-mod v = ap valueOf (sym (rawOf-mod v)) ∙ valueOf-rawOf (mod-lt v (lit< tt))
+
+pub mul-power : (a j k : ℕ) → mul (power a j) (power a k) ≡ power a (j + k)
+unfolding power
+mul-power a j k =
+    let x = rawOf (valueOf a ^ j) in
+    let y = rawOf (valueOf a ^ k) in
+    sym (rawOf-valueOf (mul-below x y))
+    ∙ ap rawOf (valueOf-mul x y ∙ (λ i. valueOf-rawOf-mod (valueOf a ^ j) i * valueOf-rawOf-mod (valueOf a ^ k) i % P) ∙ sym (mod-mul (valueOf a ^ j) (valueOf a ^ k) P))
+    ∙ rawOf-mod (valueOf a ^ j * valueOf a ^ k)
+    ∙ ap rawOf (sym (pow-add (valueOf a) j k))
+
+pub power-one : {a : ℕ} → a < P → power a 1 ≡ a
+unfolding power
+power-one {a} h = ap rawOf (pow-suc (valueOf a) 0 ∙ ap (λ (n : ℕ). n * valueOf a) (pow-zero (valueOf a)) ∙ one-mul (valueOf a)) ∙ rawOf-valueOf h
+
+-- sums
+
+pub add-cong : {a b : ℕ} (c : ℕ) → Cong P a b → add a c ≡ add b c
+unfolding add
+add-cong c h = cong-add h cong-refl .same

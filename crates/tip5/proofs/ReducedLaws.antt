@@ -9,6 +9,7 @@ use lib.Dec.{lit<}
 use Rattle.numbers.specs.Congruence.{Cong}
 use Rattle.numbers.specs.Modulus.{P}
 use Rattle.numbers.proofs.Congruence.{cong-eq, cong-multiple, cong-sym, cong-trans}
+use Rattle.tip5.proofs.ConstantLaws.{largestMended}
 use Rattle.tip5.specs.Reduced.{folded, reduced}
 
 -- 2 ^ 64 is P more than what a fold puts in its place
@@ -44,6 +45,7 @@ pub reduced-word : {s : ℕ} → s < 2 ^ 96 → reduced s < 2 ^ 64
 unfolding reduced folded
 reduced-word {s} h = fold-again (fold-once (div-lt-iff-lt-mul (lit< tt) .1 h) (mod-lt s (lit< tt)))
 
--- the repair: with a constant of at most P - 2 ^ 32 + 1 the sum stays below 2 * P, so that one subtraction of P is enough
-pub reduced-mended : {s c : ℕ} → s < 2 ^ 96 → c ≤ 18446744065119617026 → reduced s + c < 2 * P
-reduced-mended h hc = omega (arith, reduced-word h)
+-- the repair: with any word and a constant of at most P - 2 ^ 32 + 1 the sum stays below 2 * P, so that one subtraction of P
+-- is enough
+pub mended : {w c : ℕ} → w < 2 ^ 64 → c ≤ largestMended → (c ≤ P) × (w + c < 2 * P)
+mended hw hc = omega arith

@@ -2,8 +2,8 @@
 -- then 1 for a word of P or more; a refused call answers the state that went in.
 use mathlib.Core.Bool.{cond}
 use mathlib.Core.List.{List, [], _∷_}
-use Prim.Native.Nat.{ℕ, _/_, _%_}
-use lib.Dec.{ltb}
+use Prim.Native.Nat.{ℕ, _-_, _/_, _%_}
+use lib.Dec.{eqb, ltb}
 use lib.ListN.{getD}
 use Rattle.numbers.specs.Lists.{tab}
 use Rattle.tip5.specs.declared.permutation.StateAnswer.{StateAnswer}
@@ -28,6 +28,10 @@ oneRound i s = nextState (first (roundRefusal i ∷ wordRefusal s ∷ [])) (roun
 -- the entry state and that after each round, one after another
 unfoldable pub sixStates : List ℕ → List ℕ
 sixStates s = tab 96 0 (λ k. getD (rounds (k / 16) s) (k % 16) 0)
+
+-- the state that word k of the trace comes from, given the state that word k - 1 comes from
+unfoldable pub entering : (k : ℕ) → List ℕ → List ℕ
+entering k s = cond (eqb (k % 16) 0) (cond (eqb k 0) s (round (k / 16 - 1) s)) s
 
 abbrev pub trace : List ℕ → TraceAnswer
 trace s = record { refusal = wordRefusal s; states = unless (wordRefusal s) (sixStates s) (tab 96 0 (λ k. 0)) }

@@ -1,11 +1,205 @@
-// The permutation.
+// The permutation by its fast rounds. Each public call judges its words before anything moves.
+use crate::judge::judge_words;
+use crate::layers;
+use crate::refusal;
+use crate::tables;
+ghost use mathlib.Core.Path.{_≡_};
+ghost use Prim.Native.Nat.{ℕ, _+_, _-_, _/_, _%_, _<_, _≤_};
+ghost use lib.ListN.{getD, length};
+ghost use Rattle.numbers.specs.Modulus.{P};
+ghost use Rattle.tip5.specs.Judge.{unless};
+ghost use Rattle.tip5.specs.Permutation.{
+  oneRound,
+  roundSliceRefusal,
+  sixStates,
+  sliceRefusal,
+};
+ghost use Rattle.tip5.specs.Permutation as Permutation;
+ghost use Rattle.tip5.specs.Round.{permuted};
+ghost use Rattle.tip5.specs.Round as Round;
+ghost use Rattle.tip5.specs.Tables.{lookupTable, rawConstants};
 
+// A refusal or 0, and the next state, or the state that went in where the call is refused.
 pub struct StateAnswer {
     pub refusal: u8,
     pub state: [u64; 16],
 }
 
+// A refusal or 0, and six states one after another, all zero where the call is refused.
 pub struct TraceAnswer {
     pub refusal: u8,
     pub states: [u64; 96],
+}
+
+fn round_with(table: &[u8; 256], constants: &[u64; 80], round: usize, state: [u64; 16]) -> [u64; 16]
+    requires { ⌜ (now table ≡ lookupTable) × (now constants ≡ rawConstants) ⌝ }
+    requires { ⌜ (round < 5) × ((k : ℕ) → getD state k 0 < P) ⌝ }
+    ensures { λ r. ⌜ r ≡ Round.round round state ⌝ }
+{
+    let s = layers::sbox_layer(table, state);
+    let m = layers::mds_generated(s);
+    layers::add_constants(constants, round, m)
+}
+
+fn five_rounds_with(table: &[u8; 256], constants: &[u64; 80], state: [u64; 16]) -> [u64; 16]
+    requires { ⌜ (now table ≡ lookupTable) × (now constants ≡ rawConstants) ⌝ }
+    requires { ⌜ ((k : ℕ) → getD state k 0 < P) ⌝ }
+    ensures { λ r. ⌜ r ≡ permuted state ⌝ }
+{
+    let s1 = round_with(table, constants, 0, state);
+    let s2 = round_with(table, constants, 1, s1);
+    let s3 = round_with(table, constants, 2, s2);
+    let s4 = round_with(table, constants, 3, s3);
+    round_with(table, constants, 4, s4)
+}
+
+// Round 0 to 4 or, for 5, all five. The tables are laid out here and nowhere else.
+fn rounds_of(which: usize, state: [u64; 16]) -> [u64; 16]
+    requires { ⌜ (which ≤ 5) × ((k : ℕ) → getD state k 0 < P) ⌝ }
+    ensures { λ r. ⌜ (which < 5 → r ≡ Round.round which state) × (which ≡ 5 → r ≡ permuted state) ⌝ }
+{
+    let table = tables::LOOKUP_TABLE;
+    let constants = tables::ROUND_CONSTANTS;
+    if which == 5 {
+        return five_rounds_with(&table, &constants, state);
+    }
+    round_with(&table, &constants, which, state)
+}
+
+// The state after five rounds.
+pub fn permutation(state: [u64; 16]) -> StateAnswer
+    ensures { λ r. ⌜ r ≡ Permutation.permutation state ⌝ }
+{
+    let refusal = judge_words(&state);
+    if refusal != refusal::NONE {
+        return StateAnswer { refusal, state };
+    }
+    StateAnswer {
+        refusal,
+        state: rounds_of(5, state),
+    }
+}
+
+// The state after one round, 0 to 4.
+pub fn round(round: usize, state: [u64; 16]) -> StateAnswer
+    ensures { λ r. ⌜ r ≡ oneRound round state ⌝ }
+{
+    if 5 <= round {
+        return StateAnswer {
+            refusal: refusal::NO_SUCH_ROUND,
+            state,
+        };
+    }
+    let refusal = judge_words(&state);
+    if refusal != refusal::NONE {
+        return StateAnswer { refusal, state };
+    }
+    StateAnswer {
+        refusal,
+        state: rounds_of(round, state),
+    }
+}
+
+// The state as it is or, where word k of the trace is the first of a later state, after one round
+// more.
+fn entering(k: usize, state: [u64; 16]) -> [u64; 16]
+    requires { ⌜ (k < 96) × ((k : ℕ) → getD state k 0 < P) ⌝ }
+    ensures { λ r. ⌜ r ≡ Permutation.entering k state ⌝ }
+{
+    if k % 16 != 0 {
+        return state;
+    }
+    if k == 0 {
+        return state;
+    }
+    rounds_of(k / 16 - 1, state)
+}
+
+fn six_states(state: [u64; 16]) -> [u64; 96]
+    requires { ⌜ ((k : ℕ) → getD state k 0 < P) ⌝ }
+    ensures { λ r. ⌜ r ≡ sixStates state ⌝ }
+{
+    let mut out = [0u64; 96];
+    let mut s = state;
+    let mut k = 0;
+    while k < 96 {
+        let next = entering(k, s);
+        s = next;
+        out[k] = next[k % 16];
+        k += 1;
+    }
+    out
+}
+
+// The state at entry and after each round, one after another. Nothing of the caller's moves.
+pub fn trace(state: [u64; 16]) -> TraceAnswer
+    ensures { λ r. ⌜ r ≡ Permutation.trace state ⌝ }
+{
+    let refusal = judge_words(&state);
+    if refusal != refusal::NONE {
+        return TraceAnswer {
+            refusal,
+            states: [0u64; 96],
+        };
+    }
+    TraceAnswer {
+        refusal,
+        states: six_states(state),
+    }
+}
+
+// The sixteen words of a slice, and sixteen words put into one.
+pub(crate) fn sixteen(words: &[u64]) -> [u64; 16]
+    requires { ⌜ length (now words) ≡ 16 ⌝ }
+    ensures { λ r. ⌜ r ≡ now (words .entry) ⌝ }
+{
+    let mut out = [0u64; 16];
+    let mut i = 0;
+    while i < 16 {
+        out[i] = words[i];
+        i += 1;
+    }
+    out
+}
+
+pub(crate) fn put(words: &mut [u64], state: [u64; 16])
+    requires { ⌜ length (now words) ≡ 16 ⌝ }
+    ensures { λ r. ⌜ now (words .exit) ≡ state ⌝ }
+{
+    let mut i = 0;
+    while i < 16 {
+        words[i] = state[i];
+        i += 1;
+    }
+}
+
+// The permutation of a lent slice in place.
+pub fn permute(state: &mut [u64]) -> u8
+    ensures { λ r. ⌜ r ≡ sliceRefusal (now (state .entry)) ⌝ }
+    ensures { λ r. ⌜ now (state .exit) ≡ unless (sliceRefusal (now (state .entry))) (permuted (now (state .entry))) (now (state .entry)) ⌝ }
+{
+    if state.len() != 16 {
+        return refusal::WRONG_LENGTH;
+    }
+    let moved = permutation(sixteen(state));
+    let next = moved.state;
+    put(state, next);
+    moved.refusal
+}
+
+// One round of a lent slice in place.
+pub fn permute_round(round: usize, state: &mut [u64]) -> u8
+    ensures { λ r. ⌜ r ≡ roundSliceRefusal round (now (state .entry)) ⌝ }
+    ensures { λ r. ⌜ now (state .exit) ≡ unless (roundSliceRefusal round (now (state .entry))) (Round.round round (now (state .entry))) (now (state .entry)) ⌝ }
+{
+    if 5 <= round {
+        return refusal::NO_SUCH_ROUND;
+    }
+    if state.len() != 16 {
+        return refusal::WRONG_LENGTH;
+    }
+    let moved = self::round(round, sixteen(state));
+    let next = moved.state;
+    put(state, next);
+    moved.refusal
 }

@@ -1,0 +1,53 @@
+-- The way back: each round and the permutation undone, step by step, the plain way, and what the calls answer.
+use mathlib.Core.Bool.{cond}
+use mathlib.Core.List.{List, [], _∷_}
+use Prim.Native.Nat.{ℕ, zero, suc, _+_, _-_, _%_, _^_}
+use lib.Dec.{ltb}
+use lib.ListN.{getD}
+use Rattle.numbers.specs.Lists.{tab}
+use Rattle.numbers.specs.Modulus.{rootExponent}
+use Rattle.tip5.specs.declared.permutation.StateAnswer.{StateAnswer}
+use Rattle.tip5.specs.Constants.{invMdsColumn}
+use Rattle.tip5.specs.Field.{power, sub}
+use Rattle.tip5.specs.Judge.{first, wordRefusal}
+use Rattle.tip5.specs.Permutation.{nextState, roundRefusal}
+use Rattle.tip5.specs.Round.{bytewise, circulant, constant}
+
+-- entry b of `INV_LOOKUP_TABLE`: modulo the prime 257 the power by 171 undoes a cube, because 3 * 171 is 2 * 256 + 1
+unfoldable pub invLookupByte : ℕ → ℕ
+invLookupByte b = ((b + 1) ^ 171 - 1) % 257
+
+-- words 0 to 3: each byte of the raw word is looked up
+unfoldable pub invLookup : ℕ → ℕ
+invLookup w = bytewise invLookupByte w
+
+-- words 4 to 15: the seventh root
+unfoldable pub invSbox : (i word : ℕ) → ℕ
+invSbox i w = cond (ltb i 4) (invLookup w) (power w rootExponent)
+
+unfoldable pub invSboxLayer : List ℕ → List ℕ
+invSboxLayer s = tab 16 0 (λ i. invSbox i (getD s i 0))
+
+unfoldable pub subConstants : (i : ℕ) → List ℕ → List ℕ
+subConstants i s = tab 16 0 (λ r. sub (getD s r 0) (constant i r))
+
+-- the layers of round i undone, the last first
+unfoldable pub invRound : (i : ℕ) → List ℕ → List ℕ
+invRound i s = invSboxLayer (circulant invMdsColumn (subConstants i s))
+
+-- the first n rounds undone, the last first
+unfoldable pub unrounds : (n : ℕ) → List ℕ → List ℕ
+unrounds zero s = s
+unrounds (suc n) s = unrounds n (invRound n s)
+
+-- rounds 4 down to 0
+unfoldable pub invPermuted : List ℕ → List ℕ
+invPermuted s = unrounds 5 s
+
+-- what the calls answer: the refusals are those of the permutation
+
+abbrev pub invPermutation : List ℕ → StateAnswer
+invPermutation s = nextState (wordRefusal s) (invPermuted s) s
+
+abbrev pub invOneRound : (i : ℕ) → List ℕ → StateAnswer
+invOneRound i s = nextState (first (roundRefusal i ∷ wordRefusal s ∷ [])) (invRound i s) s

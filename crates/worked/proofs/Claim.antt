@@ -1,0 +1,16 @@
+-- Every marked case is as it was worked by hand: one table, computed, under one claim.
+-- Assumes nothing.
+use mathlib.Core.List.{List, map}
+use mathlib.Core.Path.{_≡_, refl}
+use Prim.Native.Nat.{ℕ}
+use Rattle.numbers.specs.Circulant.{rowSum}
+use Rattle.tip5.specs.Constants.{roundConstants}
+use Rattle.tip5.specs.Field.{add, rawOf}
+use Rattle.tip5.specs.Reduced.{folded, reduced}
+use Rattle.tip5.specs.Round.{bytewise, circulant, lookup, lookupByte}
+use Rattle.tip5.specs.Tables.{rawConstants}
+use Rattle.worked.specs.Cases.{Case, table}
+
+pub worked-cases : map (λ (c : Case). c .given) table ≡ map (λ (c : Case). c .worked) table
+unfolding table lookupByte bytewise lookup circulant rowSum folded reduced add rawConstants rawOf roundConstants
+worked-cases = refl

@@ -1,0 +1,2 @@
+-- The claim about the marked cases.
+pub mod Claim

@@ -1,0 +1,33 @@
+-- The worked cases that are marked to be proved: what each definition gives beside what was worked by hand.
+use mathlib.Core.List.{List, [], _∷_, map}
+use Prim.Native.Nat.{ℕ}
+use Rattle.matrix.specs.Column.{mdsColumn}
+use Rattle.numbers.specs.Lists.{tab}
+use Rattle.numbers.specs.Modulus.{P}
+use Rattle.tip5.specs.Field.{add}
+use Rattle.tip5.specs.Reduced.{reduced}
+use Rattle.tip5.specs.Round.{circulant, lookup, lookupByte}
+use Rattle.tip5.specs.Tables.{rawConstants}
+
+pub record Case : Type 0 where
+  pub given : List ℕ
+  pub worked : List ℕ
+
+-- sixteen times the same word
+abbrev sixteen : ℕ → List ℕ
+sixteen w = tab 16 0 (λ k. w)
+
+unfoldable pub table : List Case
+table =
+    -- lookup table: 0 to 0, 1 to 7, 254 to 248
+    record { given = map lookupByte (0 ∷ 1 ∷ 254 ∷ []); worked = 0 ∷ 7 ∷ 248 ∷ [] }
+    -- a raw word looked up, byte by byte; ONE and raw P - 1 stay
+    ∷ record { given = map lookup (0x0100000000000002 ∷ 4294967295 ∷ 18446744069414584320 ∷ []); worked = 0x070000000000001a ∷ 4294967295 ∷ 18446744069414584320 ∷ [] }
+    -- the matrix on sixteen raw 1s, on sixteen raw P - 1, and on 1 in word 0 alone
+    ∷ record { given = circulant mdsColumn (sixteen 1); worked = sixteen 524757 }
+    ∷ record { given = circulant mdsColumn (sixteen 18446744069414584320); worked = sixteen 18446744069414059564 }
+    ∷ record { given = circulant mdsColumn (1 ∷ tab 15 0 (λ k. 0)); worked = mdsColumn }
+    -- a row sum of P reduces to raw P, and adding a constant to that gives the constant
+    ∷ record { given = reduced P ∷ []; worked = P ∷ [] }
+    ∷ record { given = map (add (reduced P)) rawConstants; worked = rawConstants }
+    ∷ []

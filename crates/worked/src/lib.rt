@@ -1,0 +1,1 @@
+// No code: the marked cases of the requirements, computed from the definitions of the crates below.

@@ -1,0 +1,150 @@
+//! Writes code from the list of calls: the table for Rust, and for Rust or C one function that
+//! makes the call of a given number. Both take the arguments as `Raw` values: a number in `word`,
+//! or the address and the number of items of what is lent in `data` and `length`.
+
+use crate::header::{Call, Param};
+
+/// The Rust type of a C type.
+fn rust_type(c: &str) -> &str {
+    match c {
+        "uint8_t" => "u8",
+        "uint32_t" => "u32",
+        "uint64_t" => "u64",
+        "size_t" => "usize",
+        other => panic!("probe.h: no Rust type for {other}"),
+    }
+}
+
+/// The table of calls, as Rust.
+pub fn table(calls: &[Call]) -> String {
+    let mut text = String::from("pub const CALLS: &[Call] = &[\n");
+    for call in calls {
+        let params: Vec<_> = call.params.iter().map(table_param).collect();
+        text += &format!(
+            "    Call {{ name: {:?}, present: {}, params: &[{}] }},\n",
+            call.name,
+            call.present,
+            params.join(", ")
+        );
+    }
+    text + "];\n"
+}
+
+fn table_param(param: &Param) -> String {
+    match param {
+        Param::Number(_) => "Param::Number".to_string(),
+        Param::Place(item) => format!("Param::Place(Item::{})", rust_type(item).to_uppercase()),
+        Param::Slice { item, .. } => {
+            format!("Param::Slice(Item::{})", rust_type(item).to_uppercase())
+        }
+    }
+}
+
+/// The linked functions and the function that calls them, as Rust.
+pub fn rust_calls(calls: &[Call]) -> String {
+    let mut declared = String::from("unsafe extern \"C\" {\n");
+    let mut arms = String::new();
+    for (index, call) in calls.iter().enumerate().filter(|(_, call)| call.present) {
+        let mut types = vec![];
+        let mut values = vec![];
+        for (i, param) in call.params.iter().enumerate() {
+            match param {
+                Param::Number(kind) => {
+                    types.push(rust_type(kind).to_string());
+                    values.push(match rust_type(kind) {
+                        "u64" => format!("args[{i}].word"),
+                        narrow => format!("args[{i}].word as {narrow}"),
+                    });
+                }
+                Param::Place(item) => {
+                    types.push(format!("*mut {}", rust_type(item)));
+                    values.push(format!("args[{i}].data.cast()"));
+                }
+                Param::Slice { item, shared } => {
+                    let kind = if *shared { "*const" } else { "*mut" };
+                    types.push(format!("{kind} {}", rust_type(item)));
+                    types.push("usize".to_string());
+                    values.push(format!("args[{i}].data.cast()"));
+                    values.push(format!("args[{i}].length"));
+                }
+            }
+        }
+        let name = &call.name;
+        let types: Vec<_> = types.iter().map(|kind| format!("_: {kind}")).collect();
+        declared += &format!("    pub fn {name}({}) -> u32;\n", types.join(", "));
+        arms += &format!("            {index} => {name}({}),\n", values.join(", "));
+    }
+    format!(
+        "{declared}}}\n\n\
+         pub unsafe fn call(index: usize, args: &[Raw]) -> u32 {{\n    \
+             unsafe {{\n        match index {{\n{arms}            \
+             _ => unreachable!(),\n        }}\n    }}\n}}\n\n{}\n{}",
+        by_name(calls, "on_words", "OnWords", |params| matches!(
+            params,
+            [Param::Slice { item, shared: false }] if item == "uint64_t"
+        )),
+        by_name(calls, "on_list", "OnList", |params| matches!(
+            params,
+            [
+                Param::Slice { item: from, shared: true },
+                Param::Slice { item: to, shared: false },
+            ] if from == "uint64_t" && to == "uint64_t"
+        )),
+    )
+}
+
+/// A function from names to the linked functions of one shape, as Rust.
+fn by_name(calls: &[Call], name: &str, kind: &str, shape: fn(&[Param]) -> bool) -> String {
+    let fitting = calls.iter().filter(|it| it.present && shape(&it.params));
+    let arms: String = fitting
+        .map(|call| format!("        {0:?} => Some({0}),\n", call.name))
+        .collect();
+    format!(
+        "pub fn {name}(name: &str) -> Option<{kind}> {{\n    \
+             match name {{\n{arms}        _ => None,\n    }}\n}}\n"
+    )
+}
+
+/// The functions, the shapes of their parameters and the function that calls them, as C.
+pub fn c_calls(calls: &[Call]) -> String {
+    let mut declared = String::new();
+    let mut shapes = String::new();
+    let mut arms = String::new();
+    for (index, call) in calls.iter().enumerate() {
+        let mut types = vec![];
+        let mut values = vec![];
+        let mut shape = String::new();
+        for (i, param) in call.params.iter().enumerate() {
+            match param {
+                Param::Number(kind) => {
+                    types.push(kind.clone());
+                    values.push(format!("args[{i}].word"));
+                    shape += "0, ";
+                }
+                Param::Place(item) => {
+                    types.push(format!("{item} *"));
+                    values.push(format!("args[{i}].data"));
+                    shape += &format!("sizeof({item}), ");
+                }
+                Param::Slice { item, .. } => {
+                    types.push(format!("{item} *"));
+                    types.push("size_t".to_string());
+                    values.push(format!("args[{i}].data"));
+                    values.push(format!("args[{i}].length"));
+                    shape += &format!("sizeof({item}), ");
+                }
+            }
+        }
+        let (name, count) = (&call.name, call.params.len());
+        shapes += &format!("    {{{count}, {{{shape}}}}},\n");
+        if call.present {
+            declared += &format!("uint32_t {name}({});\n", types.join(", "));
+            arms += &format!("    case {index}: return {name}({});\n", values.join(", "));
+        }
+    }
+    format!(
+        "{declared}\nstatic const struct shape shapes[] = {{\n{shapes}}};\n\n\
+         static uint32_t call(uint64_t index, struct raw *args) {{\n    \
+         switch (index) {{\n{arms}    default: __builtin_trap();\n    }}\n}}\n"
+    )
+}

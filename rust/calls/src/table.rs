@@ -1,0 +1,25 @@
+//! The table of calls, which the build script writes from `probe.h`.
+
+/// A declared call.
+pub struct Call {
+    pub name: &'static str,
+    /// Whether libprobe.a has it.
+    pub present: bool,
+    pub params: &'static [Param],
+}
+
+/// A parameter; a slice's pointer and length are one.
+pub enum Param {
+    Number,
+    Place(Item),
+    Slice(Item),
+}
+
+/// What stands in a place or a slice.
+pub enum Item {
+    U8,
+    U32,
+    U64,
+}
+
+include!(concat!(env!("OUT_DIR"), "/table.rs"));

@@ -1,0 +1,57 @@
+//! The calls that are timed, on a state that lies where the source has it, so that no copy is
+//! timed with them. None is inlined, as ours can't be. The names by which they are exported are for
+//! `count.c`, which has no part in Rust.
+
+use super::super::inverse::InverseTip5;
+use super::*;
+
+/// A sponge.
+pub struct Sponge(Tip5);
+
+impl Sponge {
+    pub fn new(state: State) -> Self {
+        Self(sponge_of(state))
+    }
+
+    pub fn state(&self) -> State {
+        words(self.0.state)
+    }
+
+    #[inline(never)]
+    #[unsafe(export_name = "theirs_permutation")]
+    pub fn permutation(&mut self) {
+        self.0.permutation_scalar();
+    }
+}
+
+/// A state that goes back.
+pub struct Inverse(InverseTip5);
+
+impl Inverse {
+    pub fn new(state: State) -> Self {
+        Self(InverseTip5 {
+            state: elements(state),
+        })
+    }
+
+    pub fn state(&self) -> State {
+        words(self.0.state)
+    }
+
+    #[inline(never)]
+    #[unsafe(export_name = "theirs_inv_permutation")]
+    pub fn inv_permutation(&mut self) {
+        self.0.inv_permutation();
+    }
+}
+
+#[inline(never)]
+#[unsafe(export_name = "theirs_generated_function")]
+pub fn generated_function(words: &mut [u64; STATE_SIZE]) {
+    *words = Tip5::generated_function(*words);
+}
+
+#[inline(never)]
+pub fn hash_varlen(input: &[u64]) -> Five {
+    sponge::hash_varlen(input)
+}
