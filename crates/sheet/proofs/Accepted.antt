@@ -1,18 +1,20 @@
 -- What is known of a sheet that is accepted, and of its words.
 -- Assumes nothing.
-use mathlib.Core.Path.{_≡_, refl, ap}
+use mathlib.Core.Path.{_≡_, refl}
 use mathlib.Core.Bool.{Bool, true, false, cond}
 use mathlib.Core.List.{List, [], _∷_}
 use Prim.Native.Nat.{ℕ, zero, suc, _+_, _*_, _≤_, _<_}
 use native.Mathlib.Omega.{arith}
-use borrow.Author.Tests.{eqb-true, leb-true, lt-ltb, ltb-true}
-use lib.Dec.{eqb, leb, ltb}
+use borrow.Author.Tests.{eqb-true, leb-true, ltb-true}
+use lib.Dec.{eqb, leb, lit<, ltb}
 use lib.ListN.{length, getD}
 use Rattle.numbers.specs.Lists.{tab}
 use Rattle.numbers.specs.Modulus.{P}
+use Rattle.numbers.proofs.Lists.{getD-tab-all}
 use Rattle.tip5.specs.Field.{rawOf}
-use Rattle.tip5.specs.Judge.{allBelow, first, wordRefusal}
+use Rattle.tip5.specs.Judge.{first, wordRefusal}
 use Rattle.tip5.proofs.FieldLaws.{rawOf-below}
+use Rattle.tip5.proofs.JudgeLaws.{below-accepted}
 use Rattle.sheet.specs.Sheet.{elementLimit, fieldRefusals, headerOf, refusals, sheetRefusal, value, valueRefusal, wordsOf}
 
 pub record Accepted (sheet : List ℕ) : Type 0 where
@@ -47,11 +49,9 @@ accepted sheet e =
       values = none 3;
     }
 
--- raw words are below P
-below-tab : (n i : ℕ) (f : ℕ → ℕ) → ((k : ℕ) → f k < P) → allBelow (tab n i f) ≡ true
-below-tab zero i f h = refl
-below-tab (suc n) i f h = simp (lt-ltb _ _ (h i)) (below-tab n (suc i) f h)
-
+-- raw words are below P, so they are accepted
 pub words-good : (n : ℕ) (sheet : List ℕ) → wordRefusal (wordsOf n sheet) ≡ 0
 unfolding wordsOf
-words-good n sheet = ap (λ (b : Bool). cond b 0 1) (below-tab n 0 (λ i. rawOf (value sheet i)) (λ i. rawOf-below (value sheet i)))
+words-good n sheet =
+    below-accepted (tab n 0 (λ i. rawOf (value sheet i)))
+    (getD-tab-all (λ w. w < P) n 0 (λ i. rawOf (value sheet i)) (lit< tt) (λ i. rawOf-below (value sheet i)))
