@@ -17,6 +17,7 @@ use Rattle.tip5.proofs.FieldLaws.{rawOf-below}
 use Rattle.tip5.proofs.JudgeLaws.{below-accepted}
 use Rattle.sheet.specs.Sheet.{elementLimit, fieldRefusals, headerOf, refusals, sheetRefusal, value, valueRefusal, wordsOf}
 
+-- what each refusal that did not come says
 pub record Accepted (sheet : List ℕ) : Type 0 where
   pub version : headerOf sheet .version ≡ 1
   pub job : headerOf sheet .job < 2
@@ -36,6 +37,7 @@ passed : (b : Bool) (n : ℕ) → cond b 0 (suc n) ≡ 0 → b ≡ true
 passed true n e = refl
 passed false n e = absurd (omega arith)
 
+-- a sheet that is not refused
 pub accepted : (sheet : List ℕ) → sheetRefusal sheet ≡ 0 → Accepted sheet
 accepted sheet e =
     let h = headerOf sheet in

@@ -42,6 +42,7 @@ judged-refused sheet {n = suc n} e h = judged sheet e
 
 -- `a` is what reading the header answered
 module _ (sheet : List ℕ) (a : HeaderAnswer) (read : a ≡ readHeader sheet) where
+  -- its refusal is that of a sheet without a header
   short : a .refusal ≡ shortRefusal sheet
   short = ap (λ (x : HeaderAnswer). x .refusal) read
 
@@ -51,14 +52,17 @@ module _ (sheet : List ℕ) (a : HeaderAnswer) (read : a ≡ readHeader sheet) w
 
   -- and from here on it has one
   module _ (whole : a .refusal ≡ 0) where
+    -- which was answered
     pub header-read : a .header ≡ headerOf sheet
     header-read =
         ap (λ (x : HeaderAnswer). x .header) read
         ∙ ap (λ (n : ℕ). headerUnless n sheet .header) (sym short ∙ whole)
 
+    -- thirteen bits, whatever the limit
     pub elements-below : a .header .elements < 2 ^ 13
     elements-below = rw header-read (field-below (take 6 sheet) 11 13)
 
+    -- the other refusals decide
     past-short : sheetRefusal sheet ≡ first (drop 1 (refusals (a .header) sheet))
     past-short =
         first-past (drop 1 (refusals (headerOf sheet) sheet)) (sym short ∙ whole)
@@ -69,6 +73,7 @@ module _ (sheet : List ℕ) (a : HeaderAnswer) (read : a ≡ readHeader sheet) w
     judged-fields h = judged-refused sheet (past-short ∙ first-here (drop 2 (refusals (a .header) sheet)) h) h
 
     module _ (good : fieldRefusal (a .header) ≡ 0) where
+      -- with good fields, the length and the values decide
       past-fields : sheetRefusal sheet ≡ first (drop 2 (refusals (a .header) sheet))
       past-fields = past-short ∙ first-past (drop 2 (refusals (a .header) sheet)) good
 
@@ -77,6 +82,7 @@ module _ (sheet : List ℕ) (a : HeaderAnswer) (read : a ≡ readHeader sheet) w
       judged-length h = judged sheet (past-fields ∙ simp (ne-eqb _ _ h))
 
       module _ (exact : length sheet ≡ 6 + 8 * a .header .elements) where
+        -- with the right length, the values decide
         past-length : sheetRefusal sheet ≡ first (drop 3 (refusals (a .header) sheet))
         past-length = past-fields ∙ simp (eq-eqb _ _ exact)
 

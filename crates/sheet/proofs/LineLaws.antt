@@ -27,6 +27,7 @@ within-large : (d n : ℕ) → 10 ≤ n → decimalWithin (suc d) n ≡ decimalW
 unfolding decimalWithin
 within-large d n h = simp (le-ltb n 10 h)
 
+-- one of the two
 small-or-large : (n : ℕ) → (n < 10) ⊎ (10 ≤ n)
 small-or-large n = elim (decLt n 10) [ yes h ↦ inl h | no h ↦ inr (omega arith) ]
 
@@ -41,6 +42,8 @@ within-enough (suc d) (suc e) n hd he =
     ∙ sym (within-large e n h))
     (small-or-large n)
 
+-- so it is with the depth that a number has by itself
+
 pub decimal-small : {n : ℕ} → n < 10 → decimal n ≡ digit n ∷ []
 unfolding decimal
 decimal-small {n} h = within-small n n h
@@ -52,6 +55,7 @@ decimal-large {n = suc n} h =
     within-large n (suc n) h
     ∙ ap (λ (l : List ℕ). l ++ (digit (suc n) ∷ [])) (within-enough n (suc n / 10) (suc n / 10) (omega arith) (le-refl (suc n / 10)))
 
+-- one digit more
 pub large-length : {n : ℕ} → 10 ≤ n → length (decimal n) ≡ length (decimal (n / 10)) + 1
 large-length {n} h = ap length (decimal-large h) ∙ length-append (decimal (n / 10)) (digit n ∷ [])
 
@@ -92,6 +96,7 @@ rest-next zero [] h = absurd (not-suc-le-zero h)
 rest-next zero (n ∷ ns) h = refl
 rest-next (suc i) ns h = rw (drop-cons ns (suc i) 0 h, add-one (suc i))
 
+-- the same of the lengths
 pub rest-length : (i : ℕ) (ns : List ℕ) → i < length ns → length (rest i ns) ≡ length (separated i (getD ns i 0)) + length (rest (i + 1) ns)
 rest-length i ns h = ap length (rest-next i ns h) ∙ length-append (separated i (getD ns i 0)) (rest (i + 1) ns)
 

@@ -11,9 +11,11 @@ abbrev pub ascii : String → List ℕ
 ascii String.[] = []
 ascii (String._∷_ c s) = code c ∷ ascii s
 
+-- the byte between two numbers
 abbrev pub space : ℕ
 space = 32
 
+-- the byte that ends a line
 abbrev pub newline : ℕ
 newline = 10
 

@@ -5,7 +5,7 @@ use Prim.Native.Nat.{ℕ, _+_}
 use lib.ListN.{length, drop}
 use lib.Seq.{sets}
 
--- the bytes stand from place `at` on, nothing else has changed, and `next` is the place after them
+-- the bytes were stored one after another from place `at` on and nothing else was, and `next` is the place after them
 pub record Put (before : List ℕ) (at : ℕ) (bytes after : List ℕ) (next : ℕ) : Type 0 where
   pub stored : after ≡ sets before at bytes
   pub place : next ≡ at + length bytes

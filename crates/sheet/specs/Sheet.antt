@@ -49,6 +49,7 @@ fieldRefusals h =
     ∷ unusedRefusal h
     ∷ []
 
+-- the first of them
 abbrev pub fieldRefusal : Header → ℕ
 fieldRefusal h = first (fieldRefusals h)
 

@@ -8,6 +8,7 @@ ghost use Rattle.sheet.specs.Line.{decimal};
 ghost use Rattle.sheet.specs.Line as Line;
 ghost use Rattle.sheet.specs.Put.{Put};
 
+// One byte.
 pub(crate) fn put_byte(byte: u8, out: &mut [u8], at: usize) -> usize
     requires { ⌜ at < length (now out) ⌝ }
     ensures { λ r. ⌜ Put (now (out .entry)) at (byte ∷ []) (now (out .exit)) r ⌝ }
@@ -16,6 +17,7 @@ pub(crate) fn put_byte(byte: u8, out: &mut [u8], at: usize) -> usize
     at + 1
 }
 
+// All the bytes of a slice.
 pub(crate) fn put_bytes(bytes: &[u8], out: &mut [u8], at: usize) -> usize
     requires { ⌜ at + length (now bytes) ≤ length (now out) ⌝ }
     ensures { λ r. ⌜ Put (now (out .entry)) at (now (bytes .entry)) (now (out .exit)) r ⌝ }
@@ -35,7 +37,7 @@ fn digit(n: u64) -> u8
     48 + (n % 10) as u8
 }
 
-// The digits of n / 10, where that is not 0, and then the last one.
+// A number in decimal: the digits of n / 10, where that is not 0, and then the last one.
 pub(crate) fn put_decimal(n: u64, out: &mut [u8], at: usize) -> usize
     requires { ⌜ at + length (decimal n) ≤ length (now out) ⌝ }
     ensures { λ r. ⌜ Put (now (out .entry)) at (decimal n) (now (out .exit)) r ⌝ }
