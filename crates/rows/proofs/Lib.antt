@@ -1,0 +1,2 @@
+-- The laws of this crate's definitions, and what its walks by hand share.
+pub mod ColumnLaws
