@@ -4,8 +4,7 @@
 use tip5::b_field_element::BFieldElement;
 use tip5::refusal;
 ghost use mathlib.Core.Path.{_≡_};
-ghost use Rattle.rows.specs.Column.{rowCount};
-ghost use Rattle.rows.specs.Column as Column;
+ghost use Rattle.rows.specs.Column.{entry, rowCount};
 
 // A refusal or 0, and the number of rows, 0 where the view is refused.
 pub struct CountAnswer {
@@ -37,7 +36,7 @@ pub fn row_count(words: &[u64], stride: usize, offset: usize) -> CountAnswer
 
 // The word of a row.
 pub fn entry(words: &[u64], stride: usize, offset: usize, row: usize) -> EntryAnswer
-    ensures { λ r. ⌜ r ≡ Column.entry (now (words .entry)) stride offset row ⌝ }
+    ensures { λ r. ⌜ r ≡ entry (now (words .entry)) stride offset row ⌝ }
 {
     let rows = row_count(words, stride, offset);
     if rows.count <= row {
@@ -57,4 +56,37 @@ pub fn entry(words: &[u64], stride: usize, offset: usize, row: usize) -> EntryAn
         refusal: refusal::NONE,
         word,
     }
+}
+
+// A view of one column: row r is at offset + r * stride.
+pub struct Column<'a> {
+    pub elements: &'a [u64],
+    pub stride: usize,
+    pub offset: usize,
+}
+
+impl<'a> Column<'a> {
+    pub fn num_rows(self) -> CountAnswer
+        ensures { λ r. ⌜ r ≡ rowCount (now (self .entry .elements)) (self .entry .stride) (self .entry .offset) ⌝ }
+    {
+        row_count(self.elements, self.stride, self.offset)
+    }
+
+    pub fn get(self, row: usize) -> EntryAnswer
+        ensures { λ r. ⌜ r ≡ entry (now (self .entry .elements)) (self .entry .stride) (self .entry .offset) row ⌝ }
+    {
+        entry(self.elements, self.stride, self.offset, row)
+    }
+}
+
+// The word of a row, by a view that is made for it.
+pub fn column_entry(words: &[u64], stride: usize, offset: usize, row: usize) -> EntryAnswer
+    ensures { λ r. ⌜ r ≡ entry (now (words .entry)) stride offset row ⌝ }
+{
+    let column = Column {
+        elements: words,
+        stride,
+        offset,
+    };
+    column.get(row)
 }

@@ -1,0 +1,4 @@
+-- What proofs by hand share.
+pub mod Closing
+pub mod Stating
+pub mod Walk
