@@ -1,5 +1,5 @@
--- The first of several refusals: there is none where each is none, and none where there is no first. What an accepted absorb, squeeze
--- or step back says of its words.
+-- The first of several refusals: it is none where each is none, and the other way round; an early answer is the first. The refusal of
+-- a length.
 -- Assumes nothing.
 use mathlib.Core.Bool.{Bool, true, false, cond}
 use mathlib.Core.List.{List, _∷_}
