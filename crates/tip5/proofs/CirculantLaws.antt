@@ -1,12 +1,12 @@
 -- The circulant matrices: where two columns multiply to the identity modulo P, one undoes the other on sixteen words below P; and
 -- the two columns of Tip5 do so, by computation.
 -- Assumes nothing.
-use mathlib.Core.Path.{_≡_, refl, sym, ap, _∙_, subst}
-use mathlib.Core.Bool.{Bool, true, false, cond}
+use mathlib.Core.Path.{_≡_, refl, sym, ap, _∙_}
+use mathlib.Core.Bool.{Bool, cond}
 use mathlib.Core.List.{List}
 use mathlib.Core.Logic.{⊎-elim}
 use Prim.Native.Nat.{ℕ, zero, suc, _+_, _-_, _*_, _%_, _≤_, _<_, zero-le}
-use native.Mathlib.Nat.{add-zero, eq-or-lt-of-le, le-of-eq, le-step, mul-assoc, one-mul, zero-add, zero-mul}
+use native.Mathlib.Nat.{eq-or-lt-of-le, le-of-eq, le-step, mul-assoc, zero-add}
 use native.Mathlib.Omega.{arith}
 use borrow.Author.Tests.{eq-eqb, ne-eqb}
 use lib.Dec.{T, eqb, eqb→eq}
@@ -14,7 +14,7 @@ use lib.ListN.{length, getD}
 use Rattle.matrix.specs.Column.{mdsColumn}
 use Rattle.numbers.specs.Circulant.{rowSum}
 use Rattle.numbers.specs.Congruence.{Cong}
-use Rattle.numbers.specs.Lists.{tab, total}
+use Rattle.numbers.specs.Lists.{total}
 use Rattle.numbers.specs.Modulus.{P}
 use Rattle.numbers.specs.Table.{each}
 use Rattle.numbers.proofs.Congruence.{cong-eq, cong-mod, cong-mul, cong-refl, cong-remainder, cong-sym, cong-total, cong-trans}

@@ -36,14 +36,16 @@ use Rattle.tip5.proofs.RoundLaws.{
 pub invRound-round : (i : ℕ) (s : List ℕ) → length s ≡ 16 → Below s → invRound i (round i s) ≡ s
 unfolding invRound round
 invRound-round i s e h =
-    ap (λ t. invSboxLayer (circulant invMdsColumn t)) (subConstants-addConstants (circulant mdsColumn (sboxLayer s)) (circulant-length _ _) (circulant-below _ _) i)
+    ap (λ t. invSboxLayer (circulant invMdsColumn t))
+    (subConstants-addConstants (circulant mdsColumn (sboxLayer s)) (circulant-length _ _) (circulant-below _ _) i)
     ∙ ap invSboxLayer (invMds-mds (sboxLayer s) (sboxLayer-length s) (sboxLayer-below s h))
     ∙ invSboxLayer-sboxLayer s e h
 
 pub round-invRound : (i : ℕ) (s : List ℕ) → length s ≡ 16 → Below s → round i (invRound i s) ≡ s
 unfolding invRound round
 round-invRound i s e h =
-    ap (λ t. addConstants i (circulant mdsColumn t)) (sboxLayer-invSboxLayer (circulant invMdsColumn (subConstants i s)) (circulant-length _ _) (circulant-below _ _))
+    ap (λ t. addConstants i (circulant mdsColumn t))
+    (sboxLayer-invSboxLayer (circulant invMdsColumn (subConstants i s)) (circulant-length _ _) (circulant-below _ _))
     ∙ ap (addConstants i) (mds-invMds (subConstants i s) (subConstants-length i s) (subConstants-below i s))
     ∙ addConstants-subConstants s e h i
 

@@ -2,7 +2,7 @@
 // one word while it waits for another. Nothing is judged here.
 use crate::field;
 ghost use mathlib.Core.Path.{_≡_};
-ghost use Prim.Native.Nat.{ℕ, _*_, _^_, _<_};
+ghost use Prim.Native.Nat.{ℕ, _^_, _<_};
 ghost use lib.ListN.{getD};
 ghost use Rattle.numbers.specs.Lists.{tab};
 ghost use Rattle.numbers.specs.Modulus.{P, rootExponent};

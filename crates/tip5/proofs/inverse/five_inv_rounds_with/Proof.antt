@@ -27,7 +27,11 @@ inv-round-with-requires-5 c κs = (c .before .before .before .before .pre .0, (l
 returns : tie.Need-returns
 unfolding invPermuted unrounds
 returns c =
-    c .inv-round-with5 .ensures ∙ ap (invRound 0) (c .before .inv-round-with4 .ensures ∙ ap (invRound 1) (c .before .before .inv-round-with3 .ensures ∙ ap (invRound 2) (c .before .before .before .inv-round-with2 .ensures ∙ ap (invRound 3) (c .before .before .before .before .inv-round-with .ensures))))
+    let first = c .before .before .before .before .inv-round-with .ensures in
+    let second = c .before .before .before .inv-round-with2 .ensures ∙ ap (invRound 3) first in
+    let third = c .before .before .inv-round-with3 .ensures ∙ ap (invRound 2) second in
+    let fourth = c .before .inv-round-with4 .ensures ∙ ap (invRound 1) third in
+    c .inv-round-with5 .ensures ∙ ap (invRound 0) fourth
 
 pub five-inv-rounds-with-spec : {M : Type 1} → statement M
 five-inv-rounds-with-spec =

@@ -1,11 +1,9 @@
 -- `inverse::inv_round_with` meets its contract.
 -- Assumes nothing.
-use mathlib.Core.List.{List}
 use mathlib.Core.Path.{ap, subst⁻¹, _∙_}
-use Prim.Native.Nat.{ℕ}
 use borrow.Author.Needs.{needs}
 use Rattle.tip5.specs.Constants.{invMdsColumn}
-use Rattle.tip5.specs.Inverse.{invRound, invSboxLayer, subConstants}
+use Rattle.tip5.specs.Inverse.{invRound, invSboxLayer}
 use Rattle.tip5.specs.Round.{circulant}
 use Rattle.tip5.proofs.JudgeLaws.{Below}
 use Rattle.tip5.proofs.RoundLaws.{circulant-below, subConstants-below}

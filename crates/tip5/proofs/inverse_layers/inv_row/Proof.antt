@@ -80,7 +80,15 @@ loop-again : tie.Need-loop-again Inv-loop μ-loop
 loop-again c =
     let s = c .before .before .before .before .before in
     let l = c .before .before .before .before .loop in
-    (omega arith, subst (λ (n : ℕ). n < P) (sym (c .add .ensures)) (add-below _ _), row-turn 16 (l .c) (term (s .args .r) (s .args .t2)) (l .sum) (l .inv .2) (c .before .before .before .loop-test .taken) (cong-trans (cong-eq (c .before .mul .ensures ∙ ap (λ (n : ℕ). mul n (getD (s .args .t2) (l .c) 0)) (coefficient (s .pre .0 .0) (16 + s .args .r - l .c)))) (mul-rawOf _ _)) (c .add .ensures))
+    let w = getD (s .args .t2) (l .c) 0 in
+    let product =
+    cong-trans
+    (cong-eq (c .before .mul .ensures ∙ ap (λ (n : ℕ). mul n w) (coefficient (s .pre .0 .0) (16 + s .args .r - l .c))))
+    (mul-rawOf _ w) in (
+      omega arith,
+      subst (λ (n : ℕ). n < P) (sym (c .add .ensures)) (add-below _ _),
+      row-turn 16 (l .c) (term (s .args .r) (s .args .t2)) (l .sum) (l .inv .2) (c .before .before .before .loop-test .taken) product (c .add .ensures),
+    )
 
 returns : tie.Need-returns Inv-loop μ-loop
 returns c = row-done 16 (c .before .loop .c) (term (c .before .before .args .r) (c .before .before .args .t2)) (c .before .loop .inv .2) (omega arith) (c .before .loop .inv .1)

@@ -134,7 +134,12 @@ returns c =
     let x = c .before .before .seventh-roots .ensures in
     let y = c .before .seventh-roots2 .ensures in
     let z = c .seventh-roots3 .ensures in
-    λ i. l0 i .0 ∷ l1 i .0 ∷ l2 i .0 ∷ l3 i .0 ∷ getD (x i) 0 0 ∷ getD (x i) 1 0 ∷ getD (x i) 2 0 ∷ getD (x i) 3 0 ∷ getD (y i) 0 0 ∷ getD (y i) 1 0 ∷ getD (y i) 2 0 ∷ getD (y i) 3 0 ∷ getD (z i) 0 0 ∷ getD (z i) 1 0 ∷ getD (z i) 2 0 ∷ getD (z i) 3 0 ∷ []
+    λ i.
+    l0 i .0 ∷ l1 i .0 ∷ l2 i .0 ∷ l3 i .0
+    ∷ getD (x i) 0 0 ∷ getD (x i) 1 0 ∷ getD (x i) 2 0 ∷ getD (x i) 3 0
+    ∷ getD (y i) 0 0 ∷ getD (y i) 1 0 ∷ getD (y i) 2 0 ∷ getD (y i) 3 0
+    ∷ getD (z i) 0 0 ∷ getD (z i) 1 0 ∷ getD (z i) 2 0 ∷ getD (z i) 3 0
+    ∷ []
 
 pub inv-sbox-layer-spec : {M : Type 1} → statement M
 inv-sbox-layer-spec =

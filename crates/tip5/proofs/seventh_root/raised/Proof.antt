@@ -1,8 +1,8 @@
 -- `seventh_root::raised` meets its contract.
 -- Assumes nothing.
 use mathlib.Core.List.{[], _∷_}
-use mathlib.Core.Path.{_≡_, sym, ap, _∙_}
-use Prim.Native.Nat.{ℕ, _+_, _-_, _^_, _≤_, _<_}
+use mathlib.Core.Path.{_≡_, sym}
+use Prim.Native.Nat.{ℕ, _-_, _^_, _≤_, _<_}
 use native.Mathlib.Omega.{arith}
 use borrow.Author.Needs.{needs}
 use lib.ListN.{getD}
@@ -60,8 +60,13 @@ loop-less c = omega arith
 
 loop-again : tie.Need-loop-again Inv-loop μ-loop
 loop-again c =
-    let l = c .before .before .before .before .before .loop in
-    (omega arith, squared-more _ _ (l .inv .1) (c .before .before .before .mul .ensures), squared-more _ _ (l .inv .2) (c .before .before .mul2 .ensures), squared-more _ _ (l .inv .3) (c .before .mul3 .ensures), squared-more _ _ (l .inv .4) (c .mul4 .ensures))
+    let l = c .before .before .before .before .before .loop in (
+      omega arith,
+      squared-more _ _ (l .inv .1) (c .before .before .before .mul .ensures),
+      squared-more _ _ (l .inv .2) (c .before .before .mul2 .ensures),
+      squared-more _ _ (l .inv .3) (c .before .mul3 .ensures),
+      squared-more _ _ (l .inv .4) (c .mul4 .ensures),
+    )
 
 array-read-mul : tie.Need-array-read-mul Inv-loop μ-loop
 array-read-mul c = search needs
@@ -92,7 +97,11 @@ returns c =
     let l = c .before .before .before .before .before .loop in
     let b = c .before .before .before .before .before .before .args .t3 in
     let all : l .done ≡ c .before .before .before .before .before .before .args .times = omega arith in
-    λ i. squared-all _ (getD b 0 0) all (l .inv .1) (c .before .before .before .mul5 .ensures) i ∷ squared-all _ (getD b 1 0) all (l .inv .2) (c .before .before .mul6 .ensures) i ∷ squared-all _ (getD b 2 0) all (l .inv .3) (c .before .mul7 .ensures) i ∷ squared-all _ (getD b 3 0) all (l .inv .4) (c .mul8 .ensures) i ∷ []
+    let w = squared-all _ (getD b 0 0) all (l .inv .1) (c .before .before .before .mul5 .ensures) in
+    let x = squared-all _ (getD b 1 0) all (l .inv .2) (c .before .before .mul6 .ensures) in
+    let y = squared-all _ (getD b 2 0) all (l .inv .3) (c .before .mul7 .ensures) in
+    let z = squared-all _ (getD b 3 0) all (l .inv .4) (c .mul8 .ensures) in
+    λ i. w i ∷ x i ∷ y i ∷ z i ∷ []
 
 pub raised-spec : {M : Type 1} → statement M
 raised-spec =
