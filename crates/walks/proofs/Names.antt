@@ -27,6 +27,6 @@ pub use denote.Triple.Bound.{Bound}
 pub use denote.Triple.Entry.{Args, Vals, alive, onEntry}
 pub use denote.Triple.Statement.{Triple}
 pub use denote.Triple.Table.{cited}
-pub use Rattle.walks.proofs.Closing.{answered}
+pub use Rattle.walks.proofs.Closing.{WalkTo, answered}
 pub use Rattle.walks.proofs.Stating.{Answer, Stated}
 pub use Rattle.walks.proofs.Walk.{asks, field-of, frees-at, lands-in, lets, local}
