@@ -13,21 +13,21 @@ use prog.Wp.{Heap, Calls, Loops, WpFn, Closed, Tables}
 use ghost.Atoms.{Atoms, sem}
 use sound.WpLaws.{FmC, fmOf, WpFn-mono}
 use contract.Lifetimes.{Lfts, Shares, AllOutlive}
-use contract.Monad.{factI}
+use contract.Monad.{fact, factI}
 use contract.Running.{Running, GhostRules, givenOf, tables, tablesOf}
 use types.Kit.{Given, ‵, raw, ⋆, _$_, _∵_, !, qed, move, use1, by, group, suffices, done}
 use denote.Laws.{Are, Ises, Spells, valss, Tellss}
 use denote.RattleType.{flat}
 use denote.Signature.{Slot, typeAt, typesAt}
 use denote.Steps.{nothing}
-use denote.Triple.Clauses.{Clauses, Ended, Lasts, atExit, closing}
+use denote.Triple.Clauses.{Clauses, Ended, Lasts, AtExit, atExit, closing}
 use denote.Triple.End.{Kepts, Fins}
 use denote.Triple.Entry.{Args, Vals, Res, alive, onEntry}
 use denote.Triple.Spec.{tripleOf}
 use denote.Triple.Statement.{Triple}
 use denote.Triple.Table.{entered}
 use denote.Triple.Walked.{Stays, stay-dropped, hasOf, fitsOf, walkOf, AllGo, Silent, goes-dropped, ends-at, walked, walk-meets}
-use Rattle.walks.proofs.Stating.{Answer, stating, Stated}
+use Rattle.walks.proofs.Stating.{Answer}
 
 -- ---- parameters of which a contract says nothing at exit: the walk may give them away
 module _ {n : ℕ} where
@@ -94,17 +94,18 @@ module _ {M : Type 1} (𝓤 : URA M) (H : Heap 𝓤) (𝓜 : Model 𝓤 H) (𝓖
       (walked 𝓤 H (𝓖 .A) T hs c (WpFn 𝓤 H (𝓣 .C) (𝓣 .Λ) f) sp tl
       (λ κs qs bounds a g are. via 𝓤 _ (fst∗ 𝓤 _ (c κs a .requires g)) (walk (fmOf 𝓤 H (W .laws) 𝓣) κs qs bounds a g are))))
 
-  -- of a function with no `&mut`, whose answer is fixed
-  pub answered : Silents 𝓤 H (𝓖 .A) (givenOf 𝓤 H 𝓜 𝓖) (T .signature .params) (T .kept) → ((κs : Lfts (T .signature .lifetimes)) (a : Args (T .signature) κs) → Lasts T κs a) → (answer : Answer T)
+  -- of a function with no `&mut`, whose answer is fixed: `told` is that the contract says so
+  pub answered : Silents 𝓤 H (𝓖 .A) (givenOf 𝓤 H 𝓜 𝓖) (T .signature .params) (T .kept) → ((κs : Lfts (T .signature .lifetimes)) (a : Args (T .signature) κs) → Lasts T κs a) → (c : Clauses 𝓤 T) (answer : Answer T)
+      → ((κs : Lfts (T .signature .lifetimes)) (a : Args (T .signature) κs) (g : c κs a .ghost) (r : Res (T .signature) κs) (e : AtExit T κs) → ent 𝓤 (fact 𝓤 (r ≡ answer κs a)) (c κs a .ensures g r e))
       → (FmC 𝓤 H (givenOf 𝓤 H 𝓜 𝓖 .laws) (tables 𝓤 H 𝓜 𝓡 γ .C) → (κs : Lfts (T .signature .lifetimes)) (qs : Shares (T .signature .lifetimes)) (a : Args (T .signature) κs)
       → Are (typesAt (T .signature .params) κs) (Ises (typesAt (T .signature .params) κs)) a (vals κs a)
       → WalkTo 𝓤 H (𝓖 .A) (tables 𝓤 H 𝓜 𝓡 γ .C) (tables 𝓤 H 𝓜 𝓡 γ .Λ) f T κs qs a (vals κs a) (answer κs a))
-      → Triple 𝓤 (𝓡 .run (γ k)) (Stated 𝓤 T answer H (𝓖 .A))
-  answered silent still answer walk =
+      → Triple 𝓤 (𝓡 .run (γ k)) (tripleOf 𝓤 H (𝓖 .A) (T .signature) (closing 𝓤 H (𝓖 .A) T c))
+  answered silent still c answer told walk =
       let W : Given 𝓤 H (𝓖 .A) = givenOf 𝓤 H 𝓜 𝓖 in
       let ss : List (Slot (T .signature .lifetimes)) = T .signature .params in
-      closed (let-go ss (T .kept)) (let-go-goes 𝓤 H (𝓖 .A) W ss (T .kept) silent) (stating 𝓤 T answer) (λ fm κs qs bounds a g are.
-      walk fm κs qs a are (walkOf 𝓤 H (𝓖 .A) T (let-go ss (T .kept)) (stating 𝓤 T answer) .post ((κs, qs, bounds, a, vals κs a), g)) (λ u r e.
+      closed (let-go ss (T .kept)) (let-go-goes 𝓤 H (𝓖 .A) W ss (T .kept) silent) c (λ fm κs qs bounds a g are.
+      walk fm κs qs a are (walkOf 𝓤 H (𝓖 .A) T (let-go ss (T .kept)) c .post ((κs, qs, bounds, a, vals κs a), g)) (λ u r e.
       qed W (‵ (typeAt (T .signature .result) κs .own r (u ∷ [])) ∷ raw (alive 𝓤 H (𝓖 .A) (T .signature) κs qs) ∷ []) ∵ nothing ! $ move ! (1 ∷ 2 ∷ 0 ∷ []) $
-      by ! (ends 𝓤 H (𝓖 .A) W T (let-go ss (T .kept)) (stating 𝓤 T answer) ((κs, qs, bounds, a, vals κs a), g) u r (still κs a) (emp 𝓤)
-      (let-go-fits κs ss (T .kept) a (still κs a)) (let-go-has 𝓤 H (𝓖 .A) W κs ss (T .kept) a (still κs a) (vals κs a)) (factI 𝓤 (r ≡ answer κs a) (emp 𝓤) e))))
+      by ! (ends 𝓤 H (𝓖 .A) W T (let-go ss (T .kept)) c ((κs, qs, bounds, a, vals κs a), g) u r (still κs a) (emp 𝓤)
+      (let-go-fits κs ss (T .kept) a (still κs a)) (let-go-has 𝓤 H (𝓖 .A) W κs ss (T .kept) a (still κs a) (vals κs a)) (via 𝓤 (fact 𝓤 (r ≡ answer κs a)) (factI 𝓤 (r ≡ answer κs a) (emp 𝓤) e) (told κs a g r (atExit T κs a (still κs a)))))))

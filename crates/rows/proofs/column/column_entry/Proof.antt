@@ -1,7 +1,7 @@
 -- `column::column_entry` meets its contract: a walk of its MIR, by hand. A view is made of the slice and the two numbers, copied,
 -- and passed to `get`. All that the proof knows of `get` is that it meets its contract.
 -- Assumes nothing.
-use Rattle.walks.proofs.Names.{_≡_, refl, ℕ, List, [], _∷_, length, URA, w64, vint, monoR, Lft, Share, ftrue, fsep, Heap, Calls, Loops, Atoms, FmC, givenOf, tables}
+use Rattle.walks.proofs.Names.{_≡_, refl, ℕ, List, [], _∷_, length, URA, w64, vint, id⊢, monoR, Lft, Share, ftrue, fsep, Heap, Calls, Loops, Atoms, FmC, givenOf, tables}
 use Rattle.walks.proofs.Names.{Given, raw, _$_, _∵_, !, qed, by, move, use1, look, init, of-opd, and-then, no-more, returns, enter, alloc1, alloc0, params1, pass1, pass0, free0}
 use Rattle.walks.proofs.Names.{named, erased, NamedLft, agg, u64, RefT, ShrSlice, slice-vals, shr-slice-tells, shr-slice-lawful, Args, Vals, flat, typesAt, uint-vals, uint-tells, usize, Is, now, namedLft, sliceVal, Bound, alive, onEntry, Triple, cited, Answer, Stated, WalkTo, answered, asks, frees-at, lands-in, lets, local}
 use denote.Struct.Laws as LL
@@ -66,7 +66,8 @@ unfolding code.routine
 column-entry-spec 𝓤 H 𝓜 𝓖 𝓡 =
     answered 𝓤 H 𝓜 𝓖 𝓡 code.env name code.function (code.unfolded 𝓤 H 𝓜 𝓡) f.ended (λ κs. (slice-vals, (uint-vals w64, (uint-vals w64, (uint-vals w64, tt)))))
     (λ κs. (shr-slice-tells (named 0) (κs .0) u64, (uint-tells w64, (uint-tells w64, (uint-tells w64, tt)))))
-    ((λ κs x w. refl), ((λ κs x w. refl), ((λ κs x w. refl), ((λ κs x w. refl), tt)))) (λ κs a. (tt, (tt, (tt, (tt, tt))))) (λ κs a. entry (now (a .0)) (a .1 .0) (a .1 .1 .0) (a .1 .1 .1 .0)) (λ fm κs qs a are.
+    ((λ κs x w. refl), ((λ κs x w. refl), ((λ κs x w. refl), ((λ κs x w. refl), tt)))) (λ κs a. (tt, (tt, (tt, (tt, tt))))) (f.clauses 𝓤 H (𝓖 .A) (𝓜 .mem) (𝓡 .run)) (λ κs a. entry (now (a .0)) (a .1 .0) (a .1 .1 .0) (a .1 .1 .1 .0))
+    (λ κs a g r e. id⊢ 𝓤 _) (λ fm κs qs a are.
     walk 𝓤 H (𝓖 .A) (givenOf 𝓤 H 𝓜 𝓖) (tables 𝓤 H 𝓜 𝓡 code.env .C) (tables 𝓤 H 𝓜 𝓡 code.env .Λ) fm
     (cited 𝓤 H (Stated 𝓤 callee.ended found H (𝓖 .A)) 𝓜 𝓡 code.env callee-def.name callee-def.routine code.calls-rows·column·Column·get (callee-thm.met 𝓤 H 𝓜 𝓖 𝓡))
     (κs .0) (qs .0) (a .0) (a .1 .0) (a .1 .1 .0) (a .1 .1 .1 .0) (are .0) (are .1 .0) (are .1 .1 .0) (are .1 .1 .1 .0))

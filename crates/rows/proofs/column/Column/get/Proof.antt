@@ -1,7 +1,7 @@
 -- `column::Column::get` meets its contract: a walk of its MIR, by hand. The view is taken apart, and `entry` is called on its parts
 -- and the row. All that the proof knows of `entry` is that it meets its contract.
 -- Assumes nothing.
-use Rattle.walks.proofs.Names.{_≡_, refl, ℕ, List, [], _∷_, length, URA, w64, Val, vint, monoR, Lft, Share, ftrue, fsep, Heap, Calls, Loops, Atoms, FmC, givenOf, tables}
+use Rattle.walks.proofs.Names.{_≡_, refl, ℕ, List, [], _∷_, length, URA, w64, Val, vint, id⊢, monoR, Lft, Share, ftrue, fsep, Heap, Calls, Loops, Atoms, FmC, givenOf, tables}
 use Rattle.walks.proofs.Names.{Given, raw, _$_, _∵_, !, qed, by, move, use1, look, init, of-opd, and-then, no-more, returns, enter, alloc1, alloc0, params1, pass1, pass0, free0}
 use Rattle.walks.proofs.Names.{uint-vals, uint-tells, usize, Is, NamedLft, now, namedLft, sliceVal, Bound, alive, onEntry, Triple, cited, Answer, Stated, WalkTo, answered, asks, field-of, frees-at, lands-in, lets, local}
 use denote.Struct.Laws as LL
@@ -53,7 +53,8 @@ pub get-spec : {M : Type 1} → stated.statement M
 unfolding code.routine
 get-spec 𝓤 H 𝓜 𝓖 𝓡 =
     answered 𝓤 H 𝓜 𝓖 𝓡 code.env name code.function (code.unfolded 𝓤 H 𝓜 𝓡) f.ended (λ κs. (view-vals (namedLft 1 0 tt κs), (uint-vals w64, tt))) (λ κs. (view-tells (namedLft 1 0 tt κs), (uint-tells w64, tt)))
-    ((λ κs x w. refl), ((λ κs x w. refl), tt)) (λ κs a. (tt, (tt, tt))) (λ κs a. entry (now (a .0 .elements)) (a .0 .stride) (a .0 .offset) (a .1 .0)) (λ fm κs qs a are.
+    ((λ κs x w. refl), ((λ κs x w. refl), tt)) (λ κs a. (tt, (tt, tt))) (f.clauses 𝓤 H (𝓖 .A) (𝓜 .mem) (𝓡 .run)) (λ κs a. entry (now (a .0 .elements)) (a .0 .stride) (a .0 .offset) (a .1 .0))
+    (λ κs a g r e. id⊢ 𝓤 _) (λ fm κs qs a are.
     walk 𝓤 H (𝓖 .A) (givenOf 𝓤 H 𝓜 𝓖) (tables 𝓤 H 𝓜 𝓡 code.env .C) (tables 𝓤 H 𝓜 𝓡 code.env .Λ) fm
     (cited 𝓤 H (Stated 𝓤 callee.ended found H (𝓖 .A)) 𝓜 𝓡 code.env callee-def.name callee-def.routine code.calls-rows·column·entry (callee-thm.met 𝓤 H 𝓜 𝓖 𝓡))
     (κs .0) (qs .0) (a .0) (a .1 .0) (are .0) (are .1 .0))

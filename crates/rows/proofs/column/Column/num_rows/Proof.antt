@@ -1,7 +1,7 @@
 -- `column::Column::num_rows` meets its contract: a walk of its MIR, by hand. The view is taken apart, and `row_count` is called on
 -- its parts. All that the proof knows of `row_count` is that it meets its contract.
 -- Assumes nothing.
-use Rattle.walks.proofs.Names.{_≡_, refl, [], _∷_, length, URA, w64, vint, monoR, Lft, Share, ftrue, Heap, Calls, Loops, Atoms, FmC, givenOf, tables}
+use Rattle.walks.proofs.Names.{_≡_, refl, [], _∷_, length, URA, w64, vint, id⊢, monoR, Lft, Share, ftrue, Heap, Calls, Loops, Atoms, FmC, givenOf, tables}
 use Rattle.walks.proofs.Names.{Given, raw, _$_, _∵_, !, qed, by, move, use1, look, init, of-opd, and-then, no-more, returns, enter, alloc1, alloc0, params1, pass1, pass0, free0}
 use Rattle.walks.proofs.Names.{Is, NamedLft, now, namedLft, sliceVal, Bound, alive, onEntry, Triple, cited, Answer, Stated, WalkTo, answered, asks, field-of, frees-at, lands-in, lets, local}
 use denote.Struct.Laws as LL
@@ -50,7 +50,8 @@ pub num-rows-spec : {M : Type 1} → stated.statement M
 unfolding code.routine
 num-rows-spec 𝓤 H 𝓜 𝓖 𝓡 =
     answered 𝓤 H 𝓜 𝓖 𝓡 code.env name code.function (code.unfolded 𝓤 H 𝓜 𝓡) f.ended (λ κs. (view-vals (namedLft 1 0 tt κs), tt)) (λ κs. (view-tells (namedLft 1 0 tt κs), tt))
-    ((λ κs x w. refl), tt) (λ κs a. (tt, tt)) (λ κs a. rowCount (now (a .0 .elements)) (a .0 .stride) (a .0 .offset)) (λ fm κs qs a are.
+    ((λ κs x w. refl), tt) (λ κs a. (tt, tt)) (f.clauses 𝓤 H (𝓖 .A) (𝓜 .mem) (𝓡 .run)) (λ κs a. rowCount (now (a .0 .elements)) (a .0 .stride) (a .0 .offset))
+    (λ κs a g r e. id⊢ 𝓤 _) (λ fm κs qs a are.
     walk 𝓤 H (𝓖 .A) (givenOf 𝓤 H 𝓜 𝓖) (tables 𝓤 H 𝓜 𝓡 code.env .C) (tables 𝓤 H 𝓜 𝓡 code.env .Λ) fm
     (cited 𝓤 H (Stated 𝓤 callee.ended counts H (𝓖 .A)) 𝓜 𝓡 code.env callee-def.name callee-def.routine code.calls-rows·column·row-count (callee-thm.met 𝓤 H 𝓜 𝓖 𝓡))
     (κs .0) (qs .0) (a .0) (are .0))
