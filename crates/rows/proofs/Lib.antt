@@ -7,3 +7,4 @@ pub mod PasteLaws
 pub mod ProductLaws
 pub mod ShapeLaws
 pub mod TableLaws
+pub mod ViewLaws
