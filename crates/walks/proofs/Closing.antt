@@ -9,25 +9,25 @@ use mir.Val.{Val}
 use base.Logic.{SProp, ent, sep, emp, id⊢, via, emp∗, monoR, fst∗}
 use prog.Model.{Model}
 use prog.Routine.{Env as Routines}
-use prog.Wp.{Heap, WpFn, Closed, Tables}
+use prog.Wp.{Heap, Calls, Loops, WpFn, Closed, Tables}
 use ghost.Atoms.{Atoms, sem}
 use sound.WpLaws.{FmC, fmOf, WpFn-mono}
 use contract.Lifetimes.{Lfts, Shares, AllOutlive}
-use contract.Monad.{factI}
+use contract.Monad.{fact, factI}
 use contract.Running.{Running, GhostRules, givenOf, tables, tablesOf}
 use types.Kit.{Given, ‵, raw, ⋆, _$_, _∵_, !, qed, move, use1, by, group, suffices, done}
 use denote.Laws.{Are, Ises, Spells, valss, Tellss}
 use denote.RattleType.{flat}
 use denote.Signature.{Slot, typeAt, typesAt}
 use denote.Steps.{nothing}
-use denote.Triple.Clauses.{Clauses, Ended, Lasts, atExit, closing}
+use denote.Triple.Clauses.{Clauses, Ended, Lasts, AtExit, atExit, closing}
 use denote.Triple.End.{Kepts, Fins}
-use denote.Triple.Entry.{Args, Res, alive, onEntry}
+use denote.Triple.Entry.{Args, Vals, Res, alive, onEntry}
 use denote.Triple.Spec.{tripleOf}
 use denote.Triple.Statement.{Triple}
 use denote.Triple.Table.{entered}
 use denote.Triple.Walked.{Stays, stay-dropped, hasOf, fitsOf, walkOf, AllGo, Silent, goes-dropped, ends-at, walked, walk-meets}
-use Rattle.walks.proofs.Stating.{Answer, stating, Stated}
+use Rattle.walks.proofs.Stating.{Answer}
 
 -- ---- parameters of which a contract says nothing at exit: the walk may give them away
 module _ {n : ℕ} where
@@ -65,18 +65,25 @@ ends 𝓤 H A W T hs c y u r ws P fits has told =
     use1 W (raw (c (y .0 .0) (y .0 .3) .ensures (y .1) r (atExit T (y .0 .0) (y .0 .3) ws))) told $ move ! (3 ∷ 1 ∷ 2 ∷ 0 ∷ []) $ group ! 3 $ done !
 
 -- ---- from a walk to the theorem
+module _ {M : Type 1} (𝓤 : URA M) (H : Heap 𝓤) (A : Atoms 𝓤) (C : Calls 𝓤 H) (Λ : Loops 𝓤 H) (f : Fn) (T : Ended) (κs : Lfts (T .signature .lifetimes)) (qs : Shares (T .signature .lifetimes)) (a : Args (T .signature) κs) (vss : Vals (T .signature) κs) where
+  -- a walk from what the arguments a own, at the machine values vss, to Q
+  abbrev pub Walk : (Val → SProp 𝓤) → Type 1
+  Walk Q = ent 𝓤 (onEntry 𝓤 H A (T .signature) κs qs a vss) (WpFn 𝓤 H C Λ f (flat (typesAt (T .signature .params) κs) vss) Q)
+
+  -- one to any Q that the answer x gives, with what is owned of it
+  abbrev pub WalkTo : Res (T .signature) κs → Type 2
+  WalkTo x = (Q : Val → SProp 𝓤) → ((u : Val) (r : Res (T .signature) κs) → r ≡ x → ent 𝓤 (sep 𝓤 (sem 𝓤 H A (typeAt (T .signature .result) κs .own r (u ∷ []))) (alive 𝓤 H A (T .signature) κs qs)) (Q u)) → Walk Q
+
 module _ {M : Type 1} (𝓤 : URA M) (H : Heap 𝓤) (𝓜 : Model 𝓤 H) (𝓖 : GhostRules 𝓤 H) (𝓡 : Running 𝓤 H 𝓜) (γ : Routines) (k : Name) (f : Fn) (is-f : Closed 𝓤 H (tables 𝓤 H 𝓜 𝓡 γ .C) (tables 𝓤 H 𝓜 𝓡 γ .Λ) k f)
     (T : Ended) (sp : (κs : Lfts (T .signature .lifetimes)) → Spells (typesAt (T .signature .params) κs)) (tl : (κs : Lfts (T .signature .lifetimes)) → Tellss (typesAt (T .signature .params) κs) (Ises (typesAt (T .signature .params) κs)) (sp κs)) where
-  -- a walk from what the arguments own, at their machine values written out, to Q
-  abbrev pub From : (κs : Lfts (T .signature .lifetimes)) → Shares (T .signature .lifetimes) → Args (T .signature) κs → (Val → SProp 𝓤) → Type 2
-  From κs qs a Q =
-      FmC 𝓤 H (givenOf 𝓤 H 𝓜 𝓖 .laws) (tables 𝓤 H 𝓜 𝓡 γ .C) → Are (typesAt (T .signature .params) κs) (Ises (typesAt (T .signature .params) κs)) a (valss (typesAt (T .signature .params) κs) (sp κs) a)
-      → ent 𝓤 (onEntry 𝓤 H (𝓖 .A) (T .signature) κs qs a (valss (typesAt (T .signature .params) κs) (sp κs) a))
-      (WpFn 𝓤 H (tables 𝓤 H 𝓜 𝓡 γ .C) (tables 𝓤 H 𝓜 𝓡 γ .Λ) f (flat (typesAt (T .signature .params) κs) (valss (typesAt (T .signature .params) κs) (sp κs) a)) Q)
+  abbrev vals : (κs : Lfts (T .signature .lifetimes)) → Args (T .signature) κs → Vals (T .signature) κs
+  vals κs a = valss (typesAt (T .signature .params) κs) (sp κs) a
 
+  -- the arguments are related to their machine values, and the calls of the walk go by γ
   pub closed : (hs : Stays (T .signature .params) (T .kept)) → AllGo 𝓤 H (𝓖 .A) (givenOf 𝓤 H 𝓜 𝓖) (T .signature .lifetimes) (T .signature .params) (T .kept) hs → (c : Clauses 𝓤 T)
-      → ((κs : Lfts (T .signature .lifetimes)) (qs : Shares (T .signature .lifetimes)) (bounds : AllOutlive (T .signature .lifetimes) (T .signature .outlives) κs) (a : Args (T .signature) κs) (g : c κs a .ghost)
-      → From κs qs a (walkOf 𝓤 H (𝓖 .A) T hs c .post ((κs, qs, bounds, a, valss (typesAt (T .signature .params) κs) (sp κs) a), g)))
+      → (FmC 𝓤 H (givenOf 𝓤 H 𝓜 𝓖 .laws) (tables 𝓤 H 𝓜 𝓡 γ .C) → (κs : Lfts (T .signature .lifetimes)) (qs : Shares (T .signature .lifetimes)) (bounds : AllOutlive (T .signature .lifetimes) (T .signature .outlives) κs) (a : Args (T .signature) κs) (g : c κs a .ghost)
+      → Are (typesAt (T .signature .params) κs) (Ises (typesAt (T .signature .params) κs)) a (vals κs a)
+      → Walk 𝓤 H (𝓖 .A) (tables 𝓤 H 𝓜 𝓡 γ .C) (tables 𝓤 H 𝓜 𝓡 γ .Λ) f T κs qs a (vals κs a) (walkOf 𝓤 H (𝓖 .A) T hs c .post ((κs, qs, bounds, a, vals κs a), g)))
       → Triple 𝓤 (𝓡 .run (γ k)) (tripleOf 𝓤 H (𝓖 .A) (T .signature) (closing 𝓤 H (𝓖 .A) T c))
   unfolding tablesOf
   closed hs gs c walk =
@@ -85,20 +92,20 @@ module _ {M : Type 1} (𝓤 : URA M) (H : Heap 𝓤) (𝓜 : Model 𝓤 H) (𝓖
       entered 𝓤 H (tripleOf 𝓤 H (𝓖 .A) (T .signature) (closing 𝓤 H (𝓖 .A) T c)) (tables 𝓤 H 𝓜 𝓡 γ .C) (tables 𝓤 H 𝓜 𝓡 γ .Λ) k f is-f
       (walk-meets 𝓤 H (𝓖 .A) T hs W gs c (WpFn 𝓤 H (𝓣 .C) (𝓣 .Λ) f) (WpFn-mono 𝓤 H (W .laws) 𝓣 f)
       (walked 𝓤 H (𝓖 .A) T hs c (WpFn 𝓤 H (𝓣 .C) (𝓣 .Λ) f) sp tl
-      (λ κs qs bounds a g are. via 𝓤 _ (fst∗ 𝓤 _ (c κs a .requires g)) (walk κs qs bounds a g (fmOf 𝓤 H (W .laws) 𝓣) are))))
+      (λ κs qs bounds a g are. via 𝓤 _ (fst∗ 𝓤 _ (c κs a .requires g)) (walk (fmOf 𝓤 H (W .laws) 𝓣) κs qs bounds a g are))))
 
-  -- of a function with no `&mut`, whose answer is fixed: the walk goes to any Q that what is owned of that answer gives
-  pub answered : Silents 𝓤 H (𝓖 .A) (givenOf 𝓤 H 𝓜 𝓖) (T .signature .params) (T .kept) → ((κs : Lfts (T .signature .lifetimes)) (a : Args (T .signature) κs) → Lasts T κs a) → (answer : Answer T)
-      → ((κs : Lfts (T .signature .lifetimes)) (qs : Shares (T .signature .lifetimes)) (a : Args (T .signature) κs) (Q : Val → SProp 𝓤)
-      → ((u : Val) (r : Res (T .signature) κs) → r ≡ answer κs a → ent 𝓤 (sep 𝓤 (sem 𝓤 H (𝓖 .A) (typeAt (T .signature .result) κs .own r (u ∷ []))) (alive 𝓤 H (𝓖 .A) (T .signature) κs qs)) (Q u))
-      → From κs qs a Q)
-      → Triple 𝓤 (𝓡 .run (γ k)) (Stated 𝓤 T answer H (𝓖 .A))
-  answered silent still answer walk =
+  -- of a function with no `&mut`, whose answer is fixed: `told` is that the contract says so
+  pub answered : Silents 𝓤 H (𝓖 .A) (givenOf 𝓤 H 𝓜 𝓖) (T .signature .params) (T .kept) → ((κs : Lfts (T .signature .lifetimes)) (a : Args (T .signature) κs) → Lasts T κs a) → (c : Clauses 𝓤 T) (answer : Answer T)
+      → ((κs : Lfts (T .signature .lifetimes)) (a : Args (T .signature) κs) (g : c κs a .ghost) (r : Res (T .signature) κs) (e : AtExit T κs) → ent 𝓤 (fact 𝓤 (r ≡ answer κs a)) (c κs a .ensures g r e))
+      → (FmC 𝓤 H (givenOf 𝓤 H 𝓜 𝓖 .laws) (tables 𝓤 H 𝓜 𝓡 γ .C) → (κs : Lfts (T .signature .lifetimes)) (qs : Shares (T .signature .lifetimes)) (a : Args (T .signature) κs)
+      → Are (typesAt (T .signature .params) κs) (Ises (typesAt (T .signature .params) κs)) a (vals κs a)
+      → WalkTo 𝓤 H (𝓖 .A) (tables 𝓤 H 𝓜 𝓡 γ .C) (tables 𝓤 H 𝓜 𝓡 γ .Λ) f T κs qs a (vals κs a) (answer κs a))
+      → Triple 𝓤 (𝓡 .run (γ k)) (tripleOf 𝓤 H (𝓖 .A) (T .signature) (closing 𝓤 H (𝓖 .A) T c))
+  answered silent still c answer told walk =
       let W : Given 𝓤 H (𝓖 .A) = givenOf 𝓤 H 𝓜 𝓖 in
       let ss : List (Slot (T .signature .lifetimes)) = T .signature .params in
-      closed (let-go ss (T .kept)) (let-go-goes 𝓤 H (𝓖 .A) W ss (T .kept) silent) (stating 𝓤 T answer) (λ κs qs bounds a g.
-      let vss = valss (typesAt ss κs) (sp κs) a in
-      walk κs qs a (walkOf 𝓤 H (𝓖 .A) T (let-go ss (T .kept)) (stating 𝓤 T answer) .post ((κs, qs, bounds, a, vss), g)) (λ u r e.
+      closed (let-go ss (T .kept)) (let-go-goes 𝓤 H (𝓖 .A) W ss (T .kept) silent) c (λ fm κs qs bounds a g are.
+      walk fm κs qs a are (walkOf 𝓤 H (𝓖 .A) T (let-go ss (T .kept)) c .post ((κs, qs, bounds, a, vals κs a), g)) (λ u r e.
       qed W (‵ (typeAt (T .signature .result) κs .own r (u ∷ [])) ∷ raw (alive 𝓤 H (𝓖 .A) (T .signature) κs qs) ∷ []) ∵ nothing ! $ move ! (1 ∷ 2 ∷ 0 ∷ []) $
-      by ! (ends 𝓤 H (𝓖 .A) W T (let-go ss (T .kept)) (stating 𝓤 T answer) ((κs, qs, bounds, a, vss), g) u r (still κs a) (emp 𝓤)
-      (let-go-fits κs ss (T .kept) a (still κs a)) (let-go-has 𝓤 H (𝓖 .A) W κs ss (T .kept) a (still κs a) vss) (factI 𝓤 (r ≡ answer κs a) (emp 𝓤) e))))
+      by ! (ends 𝓤 H (𝓖 .A) W T (let-go ss (T .kept)) c ((κs, qs, bounds, a, vals κs a), g) u r (still κs a) (emp 𝓤)
+      (let-go-fits κs ss (T .kept) a (still κs a)) (let-go-has 𝓤 H (𝓖 .A) W κs ss (T .kept) a (still κs a) (vals κs a)) (via 𝓤 (fact 𝓤 (r ≡ answer κs a)) (factI 𝓤 (r ≡ answer κs a) (emp 𝓤) e) (told κs a g r (atExit T κs a (still κs a)))))))
