@@ -6,3 +6,4 @@ pub mod DrawingLaws
 pub mod ExtendedLaws
 pub mod IndexLaws
 pub mod SqueezeLaws
+pub mod WalkBack
