@@ -1,4 +1,5 @@
 -- The laws of this crate's definitions.
+pub mod AllowanceLaws
 pub mod AnswerLaws
 pub mod BoundLaws
 pub mod DrawLaws
