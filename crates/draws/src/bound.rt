@@ -1,5 +1,4 @@
 // Which bounds a draw takes.
-use crate::BAD_BOUND;
 use tip5::refusal;
 ghost use mathlib.Core.Path.{_≡_};
 ghost use Rattle.draws.specs.Bound.{boundRefusal};
@@ -15,5 +14,5 @@ pub(crate) fn judge_bound(bound: u32) -> u8
             return refusal::NONE;
         }
     }
-    BAD_BOUND
+    refusal::BAD_BOUND
 }

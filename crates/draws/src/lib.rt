@@ -22,10 +22,6 @@ ghost use Rattle.draws.specs.Draw.{draw};
 ghost use Rattle.sponge.specs.History.Step.{squeeze};
 ghost use Rattle.sponge.specs.WalkBack.{Accepted};
 
-const BAD_BOUND: u8 = 3;
-
-const ALLOWANCE_SPENT: u8 = 6;
-
 // A refusal or 0, how many indices were found, how many squeezes were made, and the next sponge. Refused 1 or 3 it holds
 // zeros and the sponge that went in; refused 6 it holds both counts and the sponge after the whole allowance.
 pub struct DrawAnswer {
@@ -60,7 +56,7 @@ fn draw(sponge: Tip5, bound: u32, indices: &mut [u32], allowance: u64) -> DrawAn
     while found < indices.len() {
         if squeezes == allowance {
             return DrawAnswer {
-                refusal: ALLOWANCE_SPENT,
+                refusal: refusal::ALLOWANCE_SPENT,
                 found,
                 squeezes,
                 sponge: s,
