@@ -1,4 +1,4 @@
-// The way back: the permutation and a round undone.
+// The way back: the inverse of the permutation and of a round.
 use tip5::inverse;
 ghost use mathlib.Core.Path.{_≡_};
 ghost use Rattle.tip5.specs.Inverse.{invPermuted, invRound};

@@ -1,0 +1,2 @@
+-- The definitions that the contracts of rows cite.
+pub mod Column

@@ -1,0 +1,2 @@
+// Rows of columns.
+pub mod column;

@@ -1,0 +1,5 @@
+-- What proofs by hand share.
+pub mod Closing
+pub mod Names
+pub mod Stating
+pub mod Walk

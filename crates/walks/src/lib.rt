@@ -1,0 +1,1 @@
+// No code: what the proofs by hand of the crates above share.
