@@ -1,7 +1,5 @@
-# Sourced by the scripts beside it, which set `task` to what they do. Sets VARDRAKUP_SOURCE, the
-# folder that holds twenty-first/src, and VARDRAKUP_PROBE, the folder that holds libprobe.a; each may
-# be given. Where the source or cargo is missing it says so in one line and ends the script: with 0,
-# but with 1 where CI is set.
+# Sourced by the scripts beside it, which set `task` to what they do. Where something that is needed
+# is missing it says so in one line and ends the script: with 0, but with 1 where CI is set.
 here=$(cd "$(dirname "$0")" && pwd -P)
 root=$(dirname "$here")
 
@@ -11,30 +9,45 @@ leave() {
     exit 0
 }
 
-VARDRAKUP_SOURCE=${VARDRAKUP_SOURCE:-$root/../shared/docs/src}
-[ -d "$VARDRAKUP_SOURCE/twenty-first/src" ] ||
-    leave "VARDRAKUP_SOURCE names no folder with twenty-first/src"
 command -v cargo >/dev/null || leave "there is no cargo"
-export VARDRAKUP_SOURCE
 
-# Builds libprobe.a for x86-64, unless a folder with one is given.
-need_probe() {
-    [ -z "${VARDRAKUP_PROBE:-}" ] || return 0
-    log=$root/target/log/staticlib-probe
+# Sets VARDRAKUP_SOURCE, the folder that holds twenty-first/src, unless it is given.
+need_source() {
+    VARDRAKUP_SOURCE=${VARDRAKUP_SOURCE:-$root/../shared/docs/src}
+    [ -d "$VARDRAKUP_SOURCE/twenty-first/src" ] ||
+        leave "VARDRAKUP_SOURCE names no folder with twenty-first/src"
+    export VARDRAKUP_SOURCE
+}
+
+# Whether a file was made after every crate was last changed.
+is_newest() { # FILE
+    [ -e "$1" ] && [ -z "$(find "$root/crates" "$root/crates.txt" -newer "$1" -print -quit)" ]
+}
+
+# Sets VARDRAKUP_ARCHIVES, the folder that holds the static libraries libNAME.a of the crates named,
+# and builds them for x86-64, unless it is given.
+need_archives() { # NAME...
+    [ -z "${VARDRAKUP_ARCHIVES:-}" ] || return 0
     mkdir -p "$root/target/log"
-    (cd "$root" && rt staticlib probe) >"$log" 2>&1 || { cat "$log" && exit 1; }
-    VARDRAKUP_PROBE=$root/target/staticlib
-    export VARDRAKUP_PROBE
+    for name in "$@"; do
+        is_newest "$root/target/staticlib/lib$name.a" && continue
+        log=$root/target/log/staticlib-$name
+        (cd "$root" && rt staticlib "$name") >"$log" 2>&1 || { cat "$log" && exit 1; }
+    done
+    VARDRAKUP_ARCHIVES=$root/target/staticlib
+    export VARDRAKUP_ARCHIVES
 }
 
 # The same for the machine at hand, for what has to be linked with Rust.
-need_native_probe() {
-    if [ -z "${VARDRAKUP_PROBE:-}" ] && [ "$(uname -m)" != x86_64 ]; then
-        "$here/native-probe"
-        VARDRAKUP_PROBE=$root/target/native
-        export VARDRAKUP_PROBE
+need_native_archives() { # NAME...
+    if [ -z "${VARDRAKUP_ARCHIVES:-}" ] && [ "$(uname -m)" != x86_64 ]; then
+        for name in "$@"; do
+            is_newest "$root/target/native/lib$name.a" || "$here/native-archive" "$name"
+        done
+        VARDRAKUP_ARCHIVES=$root/target/native
+        export VARDRAKUP_ARCHIVES
     fi
-    need_probe
+    need_archives "$@"
 }
 
 # One line of a table of counts: a name, ours, theirs and their ratio. Ours is - where it is not there.

@@ -1,13 +1,14 @@
-// Runs stored traces of the Rust through the trace, the permutation and each round, by value and in
-// place, and writes how many answers differ.
+// Runs stored traces of the Rust through the trace, the permutation and each round, forth and back,
+// by value and in place, and writes how many answers differ.
 mod vectors;
 
 use replay::differ;
+use tip5::inverse;
 use tip5::permutation;
 use tip5::permutation::StateAnswer;
 
-// Answers that are compared on one trace: itself, two permutations, five rounds in two ways each.
-const ANSWERS: u64 = 13;
+// Answers that are compared on one trace: itself, and the permutation and five rounds in four ways.
+const ANSWERS: u64 = 25;
 
 // The word at a place, 0 past the end.
 fn word(words: &[u64], at: usize) -> u64 {
@@ -59,32 +60,71 @@ fn of_trace(trace: &[u64]) -> u64 {
     in_place(answer.refusal, &got, trace)
 }
 
-fn of_permutation(entry: &[u64], want: &[u64]) -> u64 {
+fn permuted(entry: &[u64], want: &[u64]) -> u64 {
     let mut lent = state(entry);
     let one = by_value(permutation::permutation(lent), want);
     let refusal = permutation::permute(&mut lent);
     std::num::wrapping_add_u64(one, in_place(refusal, &lent, want))
 }
 
-fn of_round(round: usize, entry: &[u64], want: &[u64]) -> u64 {
+fn walked_back(entry: &[u64], want: &[u64]) -> u64 {
+    let mut lent = state(entry);
+    let one = by_value(inverse::inv_permutation(lent), want);
+    let refusal = inverse::inv_permute(&mut lent);
+    std::num::wrapping_add_u64(one, in_place(refusal, &lent, want))
+}
+
+fn of_permutation(before: &[u64], after: &[u64]) -> u64 {
+    std::num::wrapping_add_u64(permuted(before, after), walked_back(after, before))
+}
+
+fn moved(round: usize, entry: &[u64], want: &[u64]) -> u64 {
     let mut lent = state(entry);
     let one = by_value(permutation::round(round, lent), want);
     let refusal = permutation::permute_round(round, &mut lent);
     std::num::wrapping_add_u64(one, in_place(refusal, &lent, want))
 }
 
-// How many answers on one trace of 96 words differ.
-fn on_one(trace: &[u64]) -> u64 {
-    if trace.len() != 96 {
-        return ANSWERS;
+fn moved_back(round: usize, entry: &[u64], want: &[u64]) -> u64 {
+    let mut lent = state(entry);
+    let one = by_value(inverse::inv_round(round, lent), want);
+    let refusal = inverse::inv_permute_round(round, &mut lent);
+    std::num::wrapping_add_u64(one, in_place(refusal, &lent, want))
+}
+
+fn of_round(round: usize, before: &[u64], after: &[u64]) -> u64 {
+    std::num::wrapping_add_u64(
+        moved(round, before, after),
+        moved_back(round, after, before),
+    )
+}
+
+// Sixteen words from a place on, or all words where there are not so many.
+fn sixteen(words: &[u64], at: usize) -> &[u64] {
+    if words.len() < 16 {
+        return words;
     }
+    if words.len() - 16 < at {
+        return words;
+    }
+    &words[at..at + 16]
+}
+
+// How many answers on one trace differ.
+fn on_one(trace: &[u64]) -> u64 {
+    let s0 = sixteen(trace, 0);
+    let s1 = sixteen(trace, 16);
+    let s2 = sixteen(trace, 32);
+    let s3 = sixteen(trace, 48);
+    let s4 = sixteen(trace, 64);
+    let s5 = sixteen(trace, 80);
     let mut found = of_trace(trace);
-    found = std::num::wrapping_add_u64(found, of_permutation(trace, &trace[80..96]));
-    found = std::num::wrapping_add_u64(found, of_round(0, trace, &trace[16..32]));
-    found = std::num::wrapping_add_u64(found, of_round(1, &trace[16..32], &trace[32..48]));
-    found = std::num::wrapping_add_u64(found, of_round(2, &trace[32..48], &trace[48..64]));
-    found = std::num::wrapping_add_u64(found, of_round(3, &trace[48..64], &trace[64..80]));
-    found = std::num::wrapping_add_u64(found, of_round(4, &trace[64..80], &trace[80..96]));
+    found = std::num::wrapping_add_u64(found, of_permutation(s0, s5));
+    found = std::num::wrapping_add_u64(found, of_round(0, s0, s1));
+    found = std::num::wrapping_add_u64(found, of_round(1, s1, s2));
+    found = std::num::wrapping_add_u64(found, of_round(2, s2, s3));
+    found = std::num::wrapping_add_u64(found, of_round(3, s3, s4));
+    found = std::num::wrapping_add_u64(found, of_round(4, s4, s5));
     found
 }
 

@@ -1,33 +1,32 @@
-//! Looks into libprobe.a: for which machine it is, and which calls it has.
+//! Looks into an archive: for which machine it is, and which calls it has.
 
-use std::path::PathBuf;
+use std::path::{Path, PathBuf};
 use std::{env, fs};
 
 pub struct Archive {
-    folder: PathBuf,
+    name: &'static str,
+    file: PathBuf,
     bytes: Vec<u8>,
 }
 
 impl Archive {
-    /// The archive in the folder that VARDRAKUP_PROBE names; none where it names nothing.
-    pub fn find() -> Result<Option<Self>, String> {
-        let Ok(folder) = env::var("VARDRAKUP_PROBE") else {
-            return Ok(None);
-        };
-        let folder = fs::canonicalize(&folder)
-            .map_err(|error| format!("VARDRAKUP_PROBE={folder}: {error}"))?;
-        let file = folder.join("libprobe.a");
+    /// The archive libNAME.a of a folder; none where the folder has none.
+    pub fn open(folder: &Path, name: &'static str) -> Result<Option<Self>, String> {
+        let file = folder.join(format!("lib{name}.a"));
         println!("cargo::rerun-if-changed={}", file.display());
+        if !file.exists() {
+            return Ok(None);
+        }
         let bytes = fs::read(&file).map_err(|error| format!("{}: {error}", file.display()))?;
-        Ok(Some(Self { folder, bytes }))
+        Ok(Some(Self { name, file, bytes }))
     }
 
-    pub fn folder(&self) -> String {
-        self.folder.display().to_string()
+    pub fn name(&self) -> &str {
+        self.name
     }
 
-    pub fn file(&self) -> PathBuf {
-        self.folder.join("libprobe.a")
+    pub fn file(&self) -> &Path {
+        &self.file
     }
 
     /// Whether its code is for the machine that Rust builds for.

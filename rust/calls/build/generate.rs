@@ -11,7 +11,7 @@ fn rust_type(c: &str) -> &str {
         "uint32_t" => "u32",
         "uint64_t" => "u64",
         "size_t" => "usize",
-        other => panic!("probe.h: no Rust type for {other}"),
+        other => panic!("no Rust type for {other}"),
     }
 }
 

@@ -1,4 +1,4 @@
-//! Reads the declarations of `probe.h`.
+//! Reads the declarations of a header: one to a line.
 
 /// One declared call.
 pub struct Call {
@@ -23,10 +23,10 @@ pub enum Param {
 }
 
 /// The calls, in the order of the file.
-pub fn calls(text: &str) -> Result<Vec<Call>, String> {
+pub fn calls(header: &str, text: &str) -> Result<Vec<Call>, String> {
     text.lines()
-        .filter(|line| line.starts_with("uint32_t probe_"))
-        .map(|line| call(line).ok_or_else(|| format!("probe.h: not understood: {line}")))
+        .filter(|line| line.starts_with("uint32_t "))
+        .map(|line| call(line).ok_or_else(|| format!("{header}: not understood: {line}")))
         .collect()
 }
 

@@ -1,4 +1,4 @@
-//! Builds the server from `server.c`, the generated calls and the archive, with the compiler and
+//! Builds the server from `server.c`, the generated calls and the archives, with the compiler and
 //! the linker of the Rattle kit, and tells Rust the command that runs it.
 
 use crate::archive::Archive;
@@ -6,7 +6,7 @@ use std::env;
 use std::path::{Path, PathBuf};
 use std::process::Command;
 
-pub fn build(archive: &Archive, out: &Path) -> Result<(), String> {
+pub fn build(archives: &[Archive], out: &Path) -> Result<(), String> {
     println!("cargo::rerun-if-changed=server.c");
     let kit = kit()?;
     let machine = kit.join("on").join(env::consts::ARCH);
@@ -27,7 +27,7 @@ pub fn build(archive: &Archive, out: &Path) -> Result<(), String> {
         .arg("-o")
         .arg(&program)
         .arg(&object)
-        .arg(archive.file()))?;
+        .args(archives.iter().map(Archive::file)))?;
 
     let library = toolchain.join("lib");
     for (name, path) in [

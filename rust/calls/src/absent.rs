@@ -5,8 +5,8 @@ use crate::{Answer, OnList, OnState, Request};
 pub enum Way {}
 
 impl Way {
-    pub fn open() -> Result<Self, String> {
-        Err("built without VARDRAKUP_PROBE, the folder that has libprobe.a".to_string())
+    pub fn open(_: bool) -> Result<Self, String> {
+        Err("built without VARDRAKUP_ARCHIVES, the folder that has our archives".to_string())
     }
 
     pub fn description(&self) -> String {

@@ -1,4 +1,4 @@
-//! Our calls, made from Rust: linked into this process where libprobe.a is for this machine,
+//! Our calls, made from Rust: linked into this process where the archives are for this machine,
 //! otherwise through the server. A request and its answer are plain data, so that both ways look
 //! the same to who compares.
 
@@ -78,9 +78,10 @@ pub type OnList = fn(&[u64], &mut [u64; 5]) -> u32;
 pub struct Ours(Way);
 
 impl Ours {
-    /// Opens the way; says why where there is none.
-    pub fn open() -> Result<Self, String> {
-        Way::open().map(Self)
+    /// Opens the way; says why where there is none. What is lent to a call lies between guards or,
+    /// for a tool that watches memory, in a block of its own.
+    pub fn open(guarded: bool) -> Result<Self, String> {
+        Way::open(guarded).map(Self)
     }
 
     /// One line that says what runs.
@@ -99,5 +100,5 @@ pub fn number(name: &str) -> usize {
     CALLS
         .iter()
         .position(|call| call.name == name)
-        .unwrap_or_else(|| panic!("probe.h declares no {name}"))
+        .unwrap_or_else(|| panic!("no header declares {name}"))
 }

@@ -10,7 +10,10 @@ const STRAYED: u64 = 1 << 32;
 pub struct Way(Child);
 
 impl Way {
-    pub fn open() -> Result<Self, String> {
+    pub fn open(guarded: bool) -> Result<Self, String> {
+        if !guarded {
+            return Err("the server always has guards".to_string());
+        }
         let mut command = Command::new(env!("PROBE_EMULATOR"));
         command
             .arg(env!("PROBE_LOADER"))

@@ -1,9 +1,9 @@
-//! The table of calls, which the build script writes from `probe.h`.
+//! The table of calls, which the build script writes from the headers.
 
 /// A declared call.
 pub struct Call {
     pub name: &'static str,
-    /// Whether libprobe.a has it.
+    /// Whether an archive has it.
     pub present: bool,
     pub params: &'static [Param],
 }

@@ -60,6 +60,11 @@ impl Case {
         self.words(words, words)
     }
 
+    /// A slice of bytes, and what it is to hold after the call.
+    pub fn bytes(self, before: &[u8], want: &[u8]) -> Self {
+        self.arg(Arg::Bytes(before.to_vec()), Arg::Bytes(want.to_vec()))
+    }
+
     fn arg(mut self, before: Arg, want: Arg) -> Self {
         let call = &CALLS[self.request.call];
         let fits = match (&call.params[self.request.args.len()], &before) {

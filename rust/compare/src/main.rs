@@ -13,7 +13,7 @@ use std::process::ExitCode;
 
 fn main() -> ExitCode {
     let options = Options::read();
-    let ours = match calls::Ours::open() {
+    let ours = match calls::Ours::open(!options.no_guards) {
         Ok(ours) => ours,
         Err(reason) => {
             eprintln!("compare: {reason}");

@@ -12,13 +12,15 @@ compare: hold our calls to the real twenty-first source
                     of that, an inverse a hundredth; edges come besides
   --seed N          the seed of the random cases (default 1)
   --only NAME       only this call (add or probe_add), or this group of calls (field)
-  --allow-missing   a declared call that libprobe.a lacks is no failure
+  --allow-missing   a declared call that no archive has is no failure
+  --no-guards       what a call is lent lies in a block of memory of its own and not between
+                    guards, for a tool that watches memory
   --help            this text
 
 Exit status: 0 where nothing differs, otherwise 1.
 ",
     with_value: &["--cases", "--seed", "--only"],
-    alone: &["--allow-missing"],
+    alone: &["--allow-missing", "--no-guards"],
 };
 
 pub struct Options {
@@ -26,6 +28,7 @@ pub struct Options {
     pub cases: usize,
     pub only: Option<String>,
     pub allow_missing: bool,
+    pub no_guards: bool,
 }
 
 impl Options {
@@ -36,6 +39,7 @@ impl Options {
             cases: given.number("--cases").unwrap_or(100_000),
             only: given.text("--only").map(str::to_string),
             allow_missing: given.text("--allow-missing").is_some(),
+            no_guards: given.text("--no-guards").is_some(),
         }
     }
 

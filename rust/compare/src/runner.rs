@@ -127,7 +127,7 @@ impl Runner {
             print(row.label, &cases, &refused, &different);
         }
         for call in &self.missing {
-            println!("{call} is declared, and libprobe.a does not have it");
+            println!("{call} is declared, and no archive has it");
         }
         let sum = |part: fn(&Row) -> usize| self.rows.iter().map(part).sum::<usize>();
         println!(

@@ -1,6 +1,7 @@
 //! The cases of each call, group by group. A new group is a module with a `makers()` and a line
 //! in `all`.
 
+mod exports;
 mod field;
 mod inverse;
 mod permutation;
@@ -29,10 +30,15 @@ impl Maker {
 }
 
 pub fn all() -> Vec<Maker> {
-    [field::makers(), permutation::makers(), inverse::makers()]
-        .into_iter()
-        .flatten()
-        .collect()
+    [
+        field::makers(),
+        permutation::makers(),
+        inverse::makers(),
+        exports::makers(),
+    ]
+    .into_iter()
+    .flatten()
+    .collect()
 }
 
 /// Makers of one group.
