@@ -1,4 +1,5 @@
 -- What the calls of this crate answer.
+pub mod Answer
 pub mod Bits
 pub mod Header
 pub mod Line

@@ -1,4 +1,5 @@
 // The draw sheet: its header, its judging, its elements and the lines that it gives.
+mod answer;
 mod bits;
 mod elements;
 pub mod header;
