@@ -5,3 +5,4 @@ pub mod JudgeLaws
 pub mod LineLaws
 pub mod PutLaws
 pub mod Tabs
+mod WordsLaws
