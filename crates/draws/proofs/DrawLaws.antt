@@ -1,0 +1,56 @@
+-- The laws of a draw.
+-- Assumes nothing.
+use mathlib.Core.List.{List, [], _∷_, _++_, append-assoc, append-nil}
+use mathlib.Core.Path.{_≡_, refl, ap, ap₂, sym, _∙_}
+use Prim.Native.Nat.{ℕ, zero, suc, _+_, _-_, _≤_, _<_}
+use native.Mathlib.Nat.{add-assoc, add-zero, zero-add, suc-add, sub-zero}
+use native.Mathlib.Omega.{arith}
+use lib.ListN.{length, take, length-append, length-take}
+use Rattle.draws.specs.Draw.{Draw, draw, fromTen, fromWords, joined, nothing}
+use Rattle.sponge.specs.declared.Tip5.{Tip5}
+
+-- Draws that go on
+
+pub joined-assoc : (d e f : Draw) → joined (joined d e) f ≡ joined d (joined e f)
+joined-assoc d e f =
+    λ i. record { indices = append-assoc (d .indices) (e .indices) (f .indices) i; squeezes = add-assoc (d .squeezes) (e .squeezes) (f .squeezes) i; sponge = f .sponge }
+
+pub joined-nothing : (d : Draw) → joined d (nothing (d .sponge)) ≡ d
+joined-nothing d = λ i. record { indices = append-nil (d .indices) i; squeezes = add-zero (d .squeezes) i; sponge = d .sponge }
+
+pub nothing-joined : (s : Tip5) (d : Draw) → joined (nothing s) d ≡ d
+nothing-joined s d = λ i. record { indices = d .indices; squeezes = zero-add (d .squeezes) i; sponge = d .sponge }
+
+-- nothing is allowed
+pub draw-spent : (bound n : ℕ) (s : Tip5) → draw bound 0 n s ≡ nothing s
+unfolding draw
+draw-spent bound n s = refl
+
+-- nothing is wanted
+pub draw-none : (bound a : ℕ) (s : Tip5) → draw bound a 0 s ≡ nothing s
+unfolding draw
+draw-none bound zero s = refl
+draw-none bound (suc a) s = refl
+
+-- indices are missing, and a squeeze is allowed
+pub draw-turn : (bound a n : ℕ) (s : Tip5) → 0 < n
+    → draw bound (suc a) n s ≡ joined (fromTen bound n s) (draw bound a (n - length (fromTen bound n s .indices)) (fromTen bound n s .sponge))
+unfolding draw
+draw-turn bound a zero s h = absurd (omega arith)
+draw-turn bound a (suc n) s h = refl
+
+-- a draw, and with what is left of the wanted and more allowance the draw that goes on: the same as with both allowances at once
+pub draw-add : (bound a more n : ℕ) (s : Tip5)
+    → draw bound (a + more) n s ≡ (let d = draw bound a n s in joined d (draw bound more (n - length (d .indices)) (d .sponge)))
+unfolding draw
+draw-add bound zero more n s = ap₂ (λ (a m : ℕ). draw bound a m s) (zero-add more) (sym (sub-zero n)) ∙ sym (nothing-joined s (draw bound more (n - 0) s))
+draw-add bound (suc a) more zero s =
+    ap (λ (k : ℕ). draw bound k 0 s) (suc-add a more) ∙ sym (nothing-joined s (draw bound more 0 s) ∙ draw-none bound more s)
+draw-add bound (suc a) more (suc n) s =
+    let d = fromTen bound (suc n) s in
+    let left = suc n - length (d .indices) in
+    let e = draw bound a left (d .sponge) in
+    let fewer : suc n - length (d .indices ++ e .indices) ≡ left - length (e .indices) = omega (arith, length-append (d .indices) (e .indices)) in
+    ap (λ (k : ℕ). draw bound k (suc n) s) (suc-add a more)
+    ∙ ap (joined d) (draw-add bound a more left (d .sponge))
+    ∙ sym (ap (λ (k : ℕ). joined (joined d e) (draw bound more k (e .sponge))) fewer ∙ joined-assoc d e (draw bound more (left - length (e .indices)) (e .sponge)))
