@@ -1,13 +1,18 @@
--- The laws of a draw.
+-- The laws of a draw: one draw goes on from another, as many are found and squeezed as wanted and allowed, and the sponge is the start
+-- after the squeezes that are counted.
 -- Assumes nothing.
 use mathlib.Core.List.{List, [], _∷_, _++_, append-assoc, append-nil}
 use mathlib.Core.Path.{_≡_, refl, ap, ap₂, sym, _∙_}
 use Prim.Native.Nat.{ℕ, zero, suc, _+_, _-_, _≤_, _<_}
 use native.Mathlib.Nat.{add-assoc, add-zero, zero-add, suc-add, sub-zero}
+use native.Mathlib.Numerals.{one-add}
 use native.Mathlib.Omega.{arith}
-use lib.ListN.{length, take, length-append, length-take}
+use lib.ListN.{length, replicate, take, length-append, length-take}
 use Rattle.draws.specs.Draw.{Draw, draw, fromTen, fromWords, joined, nothing}
 use Rattle.sponge.specs.declared.Tip5.{Tip5}
+use Rattle.sponge.specs.History.{after, run}
+use Rattle.sponge.specs.History.Step.{squeeze}
+use Rattle.sponge.specs.Sponge.{rate, squeezed}
 
 -- Draws that go on
 
@@ -54,3 +59,45 @@ draw-add bound (suc a) more (suc n) s =
     ap (λ (k : ℕ). draw bound k (suc n) s) (suc-add a more)
     ∙ ap (joined d) (draw-add bound a more left (d .sponge))
     ∙ sym (ap (λ (k : ℕ). joined (joined d e) (draw bound more k (e .sponge))) fewer ∙ joined-assoc d e (draw bound more (left - length (e .indices)) (e .sponge)))
+
+-- What is found and counted
+
+-- no more than wanted
+pub draw-found : (bound a n : ℕ) (s : Tip5) → length (draw bound a n s .indices) ≤ n
+unfolding draw fromTen
+draw-found bound zero n s = omega arith
+draw-found bound (suc a) zero s = omega arith
+draw-found bound (suc a) (suc n) s =
+    let here = take (suc n) (fromWords bound (rate s)) in
+    let rest = draw bound a (suc n - length here) (squeezed s) in
+    let few = draw-found bound a (suc n - length here) (squeezed s) in
+    omega (arith, length-append here (rest .indices), length-take (suc n) (fromWords bound (rate s)))
+
+-- no more than allowed
+pub draw-squeezes : (bound a n : ℕ) (s : Tip5) → draw bound a n s .squeezes ≤ a
+unfolding draw fromTen
+draw-squeezes bound zero n s = omega arith
+draw-squeezes bound (suc a) zero s = omega arith
+draw-squeezes bound (suc a) (suc n) s =
+    let few = draw-squeezes bound a (suc n - length (take (suc n) (fromWords bound (rate s)))) (squeezed s) in
+    omega arith
+
+-- where indices are missing the whole allowance is spent
+pub draw-missing : (bound a n : ℕ) (s : Tip5) → length (draw bound a n s .indices) < n → draw bound a n s .squeezes ≡ a
+unfolding draw fromTen
+draw-missing bound zero n s h = refl
+draw-missing bound (suc a) zero s h = absurd (omega arith)
+draw-missing bound (suc a) (suc n) s h =
+    let here = take (suc n) (fromWords bound (rate s)) in
+    let rest = draw bound a (suc n - length here) (squeezed s) in
+    let spent = draw-missing bound a (suc n - length here) (squeezed s) (omega (arith, length-append here (rest .indices))) in
+    omega arith
+
+-- the sponge is the start after as many squeezes as are counted
+pub draw-sponge : (bound a n : ℕ) (s : Tip5) → draw bound a n s .sponge ≡ run (replicate (draw bound a n s .squeezes) squeeze) s
+unfolding draw fromTen run after
+draw-sponge bound zero n s = refl
+draw-sponge bound (suc a) zero s = refl
+draw-sponge bound (suc a) (suc n) s =
+    let left = suc n - length (take (suc n) (fromWords bound (rate s))) in
+    draw-sponge bound a left (squeezed s) ∙ ap (λ (k : ℕ). run (replicate k squeeze) s) (sym (one-add (draw bound a left (squeezed s) .squeezes)))

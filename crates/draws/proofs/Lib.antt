@@ -1,4 +1,5 @@
 -- The laws of this crate's definitions.
+pub mod AllowanceLaws
 pub mod AnswerLaws
 pub mod BoundLaws
 pub mod DrawLaws
@@ -6,3 +7,4 @@ pub mod DrawingLaws
 pub mod ExtendedLaws
 pub mod IndexLaws
 pub mod SqueezeLaws
+pub mod WalkBack
