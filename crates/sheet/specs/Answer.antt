@@ -27,13 +27,13 @@ seedOf sheet = elementsOf sheet
 unfoldable pub digestValues : (sheet : List ℕ) → List ℕ
 digestValues sheet = map valueOf (digestOf (elementsOf sheet))
 
--- the sponge that a draw starts from: the seed padded and absorbed into the start for inputs of any length
-unfoldable pub seeded : (sheet : List ℕ) → Tip5
-seeded sheet = run (paddedSteps (seedOf sheet)) (start VariableLength)
+-- the sponge that a draw starts from: words padded and absorbed into the start for inputs of any length
+unfoldable pub seededBy : (words : List ℕ) → Tip5
+seededBy words = run (paddedSteps words) (start VariableLength)
 
 -- the draw of a sheet
 unfoldable pub sheetDraw : (sheet : List ℕ) → Draw
-sheetDraw sheet = draw (2 ^ headerOf sheet .log2) (headerOf sheet .allowance) (headerOf sheet .indices) (seeded sheet)
+sheetDraw sheet = draw (2 ^ headerOf sheet .log2) (headerOf sheet .allowance) (headerOf sheet .indices) (seededBy (seedOf sheet))
 
 -- its line: refusal 6 where indices are missing
 unfoldable pub drawnLine : (wanted : ℕ) → Draw → List ℕ

@@ -6,3 +6,4 @@ pub mod header;
 pub mod judge;
 pub mod line;
 mod put;
+pub mod sheet_line;
