@@ -1,8 +1,9 @@
 -- What is left of a list that is made by a function of its places, as a loop over it goes on.
 -- Assumes nothing.
 use mathlib.Core.Path.{_≡_, sym, ap, _∙_}
-use mathlib.Core.List.{[], _∷_}
-use Prim.Native.Nat.{ℕ, suc, _+_, _-_, _≤_, _<_}
+use mathlib.Core.List.{List, [], _∷_, _++_}
+use Prim.Native.Nat.{ℕ, zero, suc, _+_, _-_, _≤_, _<_}
+use native.Mathlib.Nat.{add-suc, add-zero, suc-add}
 use native.Mathlib.Numerals.{add-one}
 use native.Mathlib.Omega.{arith}
 use Rattle.numbers.specs.Lists.{tab}
@@ -18,3 +19,9 @@ pub tab-none : (n i : ℕ) (f : ℕ → ℕ) → n ≤ i → tab (n - i) i f ≡
 tab-none n i f h =
     let e : n - i ≡ 0 = omega arith in
     ap (λ (k : ℕ). tab k i f) e
+
+-- one entry more, at the end
+pub tab-snoc : (n i : ℕ) (f : ℕ → ℕ) → tab (suc n) i f ≡ tab n i f ++ (f (i + n) ∷ [])
+tab-snoc zero i f = ap (λ (k : ℕ). f k ∷ []) (sym (add-zero i))
+tab-snoc (suc n) i f =
+    ap (λ (l : List ℕ). f i ∷ l) (tab-snoc n (suc i) f ∙ ap (λ (k : ℕ). tab n (suc i) f ++ (f k ∷ [])) (suc-add i n ∙ sym (add-suc i n)))

@@ -1,7 +1,9 @@
 // The draw sheet: its header, its judging, its elements and the lines that it gives.
+mod answer;
 mod bits;
 mod elements;
 pub mod header;
 pub mod judge;
 pub mod line;
 mod put;
+pub mod sheet_line;
