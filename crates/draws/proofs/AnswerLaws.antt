@@ -10,7 +10,7 @@ use Rattle.draws.specs.Answers.{drawAnswer, drawRefusal, foundRefusal, i
 use Rattle.draws.specs.Bound.{boundRefusal}
 use Rattle.draws.specs.Draw.{Draw, nothing}
 use Rattle.sponge.specs.declared.Tip5.{Tip5}
-use Rattle.sponge.specs.Answers.{spongeRefusal}
+use Rattle.sponge.specs.Answers.{squeezeRefusal}
 use Rattle.sponge.specs.History.Step.{squeeze}
 use Rattle.sponge.specs.WalkBack.{Accepted}
 use Rattle.sponge.proofs.RefusalLaws.{none-first}
@@ -30,7 +30,7 @@ all-found {wanted} {found} h = rw (le-ltb found wanted h)
 
 pub accepted-draw : (s : Tip5) (bound allowance : ℕ) → drawRefusal s bound ≡ 0 → Power 32 bound × Accepted (replicate allowance squeeze) s
 accepted-draw s bound allowance e =
-    let both = none-first (spongeRefusal s) (boundRefusal bound ∷ []) e in
+    let both = none-first (squeezeRefusal s) (boundRefusal bound ∷ []) e in
     (accepted-bound bound (none-first (boundRefusal bound) [] (both .1) .0), squeezes-accepted allowance s (both .0))
 
 -- An answer that code made with the refusal r, where the definition has n

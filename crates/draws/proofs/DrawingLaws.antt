@@ -12,7 +12,7 @@ use Rattle.draws.specs.Answers.{drawAnswer, foundRefusal, inFront}
 use Rattle.draws.specs.Draw.{Draw, draw, fromTen, fromWords, joined, nothing}
 use Rattle.draws.specs.Extended.{Extended}
 use Rattle.sponge.specs.declared.Tip5.{Tip5}
-use Rattle.sponge.specs.Answers.{spongeRefusal}
+use Rattle.sponge.specs.Answers.{squeezeRefusal}
 use Rattle.sponge.specs.History.{after}
 use Rattle.sponge.specs.History.Step.{squeeze}
 use Rattle.sponge.specs.Sponge.{rate, squeezed}
@@ -48,13 +48,13 @@ drawing-starts bound allowance s before h =
 -- Another squeeze
 
 -- the next of n squeezes that are accepted, and those after it
-pub next-accepted : {n m : ℕ} (s : Tip5) → n ≡ suc m → Accepted (replicate n squeeze) s → (spongeRefusal s ≡ 0) × Accepted (replicate m squeeze) (squeezed s)
+pub next-accepted : {n m : ℕ} (s : Tip5) → n ≡ suc m → Accepted (replicate n squeeze) s → (squeezeRefusal s ≡ 0) × Accepted (replicate m squeeze) (squeezed s)
 unfolding after
 next-accepted s e h = subst (λ (k : ℕ). Accepted (replicate k squeeze) s) e h
 
 module _ {bound allowance : ℕ} {start : Tip5} {before now : List ℕ} {found squeezes : ℕ} {sponge : Tip5} where
   -- it is accepted
-  pub drawing-squeezes : Drawing bound allowance start before now found squeezes sponge → squeezes < allowance → spongeRefusal sponge ≡ 0
+  pub drawing-squeezes : Drawing bound allowance start before now found squeezes sponge → squeezes < allowance → squeezeRefusal sponge ≡ 0
   drawing-squeezes d h =
       let more : allowance - squeezes ≡ suc (allowance - (squeezes + 1)) = omega arith in
       next-accepted sponge more (d .accepted) .0

@@ -9,14 +9,14 @@ use Rattle.draws.specs.declared.DrawAnswer.{DrawAnswer}
 use Rattle.draws.specs.Bound.{boundRefusal}
 use Rattle.draws.specs.Draw.{Draw, draw, nothing}
 use Rattle.sponge.specs.declared.Tip5.{Tip5}
-use Rattle.sponge.specs.Answers.{spongeRefusal}
+use Rattle.sponge.specs.Answers.{squeezeRefusal}
 use Rattle.sponge.specs.History.{Step}
 use Rattle.sponge.specs.History.Step.{squeeze}
 use Rattle.tip5.specs.Judge.{first, unless}
 
 -- the refusals with which nothing is drawn
 abbrev pub drawRefusal : Tip5 → (bound : ℕ) → ℕ
-drawRefusal s bound = first (spongeRefusal s ∷ boundRefusal bound ∷ [])
+drawRefusal s bound = first (squeezeRefusal s ∷ boundRefusal bound ∷ [])
 
 -- refusal 6 where fewer indices are found than wanted
 abbrev pub foundRefusal : (wanted found : ℕ) → ℕ
