@@ -3,6 +3,7 @@
 use mathlib.Core.List.{List, map}
 use mathlib.Core.Path.{_≡_, refl}
 use Prim.Native.Nat.{ℕ}
+use Rattle.draws.specs.Draw.{drawnFrom, indexOf}
 use Rattle.numbers.specs.Circulant.{rowSum}
 use Rattle.tip5.specs.Constants.{roundConstants}
 use Rattle.tip5.specs.Field.{add, rawOf}
@@ -12,5 +13,5 @@ use Rattle.tip5.specs.Tables.{rawConstants}
 use Rattle.worked.specs.Cases.{Case, table}
 
 pub worked-cases : map (λ (c : Case). c .given) table ≡ map (λ (c : Case). c .worked) table
-unfolding table lookupByte bytewise lookup circulant rowSum folded reduced add rawConstants rawOf roundConstants
+unfolding table lookupByte bytewise lookup circulant rowSum folded reduced add rawConstants rawOf roundConstants drawnFrom indexOf
 worked-cases = refl

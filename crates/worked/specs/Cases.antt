@@ -1,6 +1,7 @@
 -- The worked cases that are marked to be proved: what each definition gives beside what was worked by hand.
 use mathlib.Core.List.{List, [], _∷_, map}
 use Prim.Native.Nat.{ℕ}
+use Rattle.draws.specs.Draw.{drawnFrom}
 use Rattle.matrix.specs.Column.{mdsColumn}
 use Rattle.numbers.specs.Lists.{tab}
 use Rattle.numbers.specs.Modulus.{P}
@@ -30,4 +31,8 @@ table =
     -- a row sum of P reduces to raw P, and adding a constant to that gives the constant
     ∷ record { given = reduced P ∷ []; worked = P ∷ [] }
     ∷ record { given = map (add (reduced P)) rawConstants; worked = rawConstants }
+    -- at bound 4 value P - 2 draws 3, P - 1 draws nothing, and 2 ^ 32 draws 0
+    ∷ record { given = drawnFrom 4 18446744069414584319; worked = 3 ∷ [] }
+    ∷ record { given = drawnFrom 4 18446744069414584320; worked = [] }
+    ∷ record { given = drawnFrom 4 4294967296; worked = 0 ∷ [] }
     ∷ []
