@@ -7,7 +7,7 @@ use native.Mathlib.Nat.{le-refl}
 use native.Mathlib.Numerals.{add-one}
 use native.Mathlib.Omega.{arith}
 use lib.ListN.{drop, length, set, take, length-append, length-set, length-take}
-use lib.Seq.{drop-drop, drop-set-lt, length-take-le, take-all, take-append-le, take-append-add, take-at, take-suc-set, take-take}
+use lib.Seq.{drop-drop, drop-set-lt, length-take-le, take-all, take-append-add, take-at, take-suc-set}
 use Rattle.draws.specs.Extended.{Extended}
 
 pub extended-none : (before : List ℕ) {found : ℕ} → found ≤ length before → Extended before found [] found before

@@ -1,13 +1,13 @@
 -- The steps of a draw: every squeeze that it made, one refused 6 included. The next sponge is the start after them, and the walk back
 -- answers every earlier sponge.
 -- Assumes nothing.
-use mathlib.Core.List.{List, [], _∷_, reverse, reverseAux}
-use mathlib.Core.Path.{_≡_, refl, ap, subst, sym, _∙_}
+use mathlib.Core.List.{List, reverse, reverseAux}
+use mathlib.Core.Path.{_≡_, refl, ap, sym, _∙_}
 use Prim.Native.Nat.{ℕ, zero, suc, _+_, _≤_}
 use native.Mathlib.Nat.{add-suc, add-zero, le-of-suc-le-suc, not-suc-le-zero, suc-add, zero-add}
 use lib.ListN.{drop, length, replicate, take}
-use Rattle.draws.specs.Answers.{drawRefusal, drawSteps, drawn, sampleIndices}
-use Rattle.draws.specs.Draw.{Draw, draw, nothing}
+use Rattle.draws.specs.Answers.{drawRefusal, drawSteps, sampleIndices}
+use Rattle.draws.specs.Draw.{draw, nothing}
 use Rattle.sponge.specs.declared.step_back.StepKind.the-variants.{Squeeze}
 use Rattle.sponge.specs.declared.Tip5.{Tip5}
 use Rattle.sponge.specs.Answers.{granted}

@@ -22,11 +22,11 @@ drawRefusal s bound = first (squeezeRefusal s ∷ boundRefusal bound ∷ [])
 abbrev pub foundRefusal : (wanted found : ℕ) → ℕ
 foundRefusal wanted found = cond (ltb found wanted) 6 0
 
--- the draw that a call makes
+-- the draw that a call makes: none with those refusals
 abbrev pub drawn : Tip5 → (bound allowance wanted : ℕ) → Draw
 drawn s bound allowance wanted = unless (drawRefusal s bound) (draw bound allowance wanted s) (nothing s)
 
--- the answer to a call with a draw: the counts, the next sponge, and the refusal, if there is none before 6
+-- the answer with a draw: its counts and sponge, and 6 if it is short and there is no refusal n before that
 abbrev pub drawAnswer : (refusal wanted : ℕ) → Draw → DrawAnswer
 drawAnswer n wanted d = record { refusal = first (n ∷ foundRefusal wanted (length (d .indices)) ∷ []); found = length (d .indices); squeezes = d .squeezes; sponge = d .sponge }
 
@@ -34,13 +34,14 @@ drawAnswer n wanted d = record { refusal = first (n ∷ foundRefusal wanted (len
 abbrev pub inFront : (indices before : List ℕ) → List ℕ
 inFront indices before = indices ++ drop (length indices) before
 
+-- the answer to a call
 abbrev pub sampleIndices : Tip5 → (bound allowance wanted : ℕ) → DrawAnswer
 sampleIndices s bound allowance wanted = drawAnswer (drawRefusal s bound) wanted (drawn s bound allowance wanted)
 
--- the lent slice at exit
+-- its lent slice at exit
 abbrev pub sampledSlice : Tip5 → (bound allowance : ℕ) (before : List ℕ) → List ℕ
 sampledSlice s bound allowance before = inFront (drawn s bound allowance (length before) .indices) before
 
--- the steps of a call: every squeeze that it made is one, with refusal 6 too
+-- its steps: every squeeze that it made is one, with refusal 6 too
 abbrev pub drawSteps : Tip5 → (bound allowance wanted : ℕ) → List Step
 drawSteps s bound allowance wanted = replicate (drawn s bound allowance wanted .squeezes) squeeze

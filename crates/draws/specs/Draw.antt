@@ -4,13 +4,14 @@ use mathlib.Core.List.{List, [], _∷_, _++_}
 use Prim.Native.Nat.{ℕ, zero, suc, _+_, _-_, _%_, _^_}
 use lib.Dec.{eqb}
 use lib.ListN.{length, take}
+use Rattle.numbers.specs.Modulus.{P}
 use Rattle.sponge.specs.declared.Tip5.{Tip5}
 use Rattle.sponge.specs.Sponge.{rate, squeezed}
 use Rattle.tip5.specs.Field.{valueOf}
 
 -- the value that draws nothing: P - 1
 abbrev pub skipped : ℕ
-skipped = 18446744069414584320
+skipped = P - 1
 
 -- the index of a value: its low 32 bits, modulo the bound
 unfoldable pub indexOf : (bound value : ℕ) → ℕ

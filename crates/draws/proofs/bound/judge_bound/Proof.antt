@@ -1,6 +1,6 @@
 -- `bound::judge_bound` meets its contract.
 -- Assumes nothing.
-use mathlib.Core.Bool.{Bool, true, cond}
+use mathlib.Core.Bool.{Bool, cond}
 use mathlib.Core.Path.{_≡_, ap, refl, sym, _∙_}
 use Prim.Native.Nat.{ℕ, suc, _-_, _≤_}
 use native.Mathlib.Omega.{arith}
