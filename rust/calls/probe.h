@@ -1,29 +1,29 @@
 /* Our calls, as the static library of the crate `probe` exports them for tests and benchmarks.
  *
  * This list is the only one: the build script reads it and writes from it what calls each function,
- * from Rust or from the server. One declaration to a line. A pointer that a `size_t` follows is a
- * lent slice; any other pointer is one place for an answer. Every call answers its refusal number,
- * 0 for none. Elements are raw words.
+ * from Rust or from the server. One declaration to a line. A pointer and the `size_t` after it are a
+ * lent slice; an array has as many items as it says. Every call answers its refusal number, 0 for
+ * none. Elements are raw words.
  */
 #include <stddef.h>
 #include <stdint.h>
 
 /* The field. A refused call answers 0 in its place. */
-uint32_t probe_new(uint64_t value, uint64_t *raw);
-uint32_t probe_from_raw_u64(uint64_t word, uint64_t *raw);
-uint32_t probe_raw_u64(uint64_t raw, uint64_t *word);
-uint32_t probe_value(uint64_t raw, uint64_t *value);
-uint32_t probe_add(uint64_t a, uint64_t b, uint64_t *raw);
-uint32_t probe_sub(uint64_t a, uint64_t b, uint64_t *raw);
-uint32_t probe_mul(uint64_t a, uint64_t b, uint64_t *raw);
-uint32_t probe_mod_pow(uint64_t a, uint64_t exponent, uint64_t *raw);
+uint32_t probe_new(uint64_t value, uint64_t raw[1]);
+uint32_t probe_from_raw_u64(uint64_t word, uint64_t raw[1]);
+uint32_t probe_raw_u64(uint64_t raw, uint64_t word[1]);
+uint32_t probe_value(uint64_t raw, uint64_t value[1]);
+uint32_t probe_add(uint64_t a, uint64_t b, uint64_t raw[1]);
+uint32_t probe_sub(uint64_t a, uint64_t b, uint64_t raw[1]);
+uint32_t probe_mul(uint64_t a, uint64_t b, uint64_t raw[1]);
+uint32_t probe_mod_pow(uint64_t a, uint64_t exponent, uint64_t raw[1]);
 
 /* The permutation. A refused call leaves the state as it was, and zeros for a trace. */
 uint32_t probe_permutation(uint64_t *state, size_t n);
-uint32_t probe_round(uint64_t round, uint64_t *state, size_t n);
-uint32_t probe_trace(const uint64_t *state, size_t n, uint64_t *six, size_t m);
-uint32_t probe_generated_function(uint64_t *words, size_t n);
+uint32_t probe_round(size_t round, uint64_t *state, size_t n);
+uint32_t probe_trace(const uint64_t state[16], uint64_t six[96]);
+uint32_t probe_generated_function(uint64_t words[16]);
 
 /* The way back. */
 uint32_t probe_inv_permutation(uint64_t *state, size_t n);
-uint32_t probe_inv_round(uint64_t round, uint64_t *state, size_t n);
+uint32_t probe_inv_round(size_t round, uint64_t *state, size_t n);

@@ -1,4 +1,5 @@
 -- The laws of numbers.
+pub mod Circulant
 pub mod Congruence
 pub mod Divisors
 pub mod Fill

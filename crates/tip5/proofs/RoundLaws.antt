@@ -11,6 +11,7 @@ use lib.ListN.{length, getD}
 use Rattle.numbers.specs.Circulant.{rowSum}
 use Rattle.numbers.specs.Lists.{tab}
 use Rattle.numbers.specs.Modulus.{P}
+use Rattle.numbers.proofs.Lists.{getD-tab-all}
 use Rattle.tip5.specs.Inverse.{invPermuted, invRound, invSbox, invSboxLayer, subConstants, unrounds}
 use Rattle.tip5.specs.Round.{addConstants, circulant, constant, permuted, round, rounds, sbox, sboxLayer}
 use Rattle.tip5.proofs.FieldLaws.{add-below, power-below, rawOf-below, sub-below}
@@ -19,9 +20,7 @@ use Rattle.tip5.proofs.LookupLaws.{invLookup-below, lookup-below}
 
 -- a list that is made by a function into numbers below P
 pub tab-below : (n i : ℕ) {f : ℕ → ℕ} → ((c : ℕ) → f c < P) → Below (tab n i f)
-tab-below zero i h k = lit< tt
-tab-below (suc n) i h zero = h i
-tab-below (suc n) i h (suc k) = tab-below n (suc i) h k
+tab-below n i {f} = getD-tab-all (λ w. w < P) n i f (lit< tt)
 
 -- one of two numbers below P
 cond-below : (b : Bool) {x y : ℕ} → x < P → y < P → cond b x y < P

@@ -61,11 +61,10 @@ impl BFieldElement {
     pub fn from_raw_u64(word: u64) -> ElementAnswer
         ensures { λ r. ⌜ r ≡ fromRaw word ⌝ }
     {
-        if word < Self::P {
-            ElementAnswer::accepted(word)
-        } else {
-            ElementAnswer::refused()
+        if Self::P <= word {
+            return ElementAnswer::refused();
         }
+        ElementAnswer::accepted(word)
     }
 
     // The raw word of an element.

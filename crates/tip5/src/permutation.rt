@@ -4,7 +4,7 @@ use crate::layers;
 use crate::refusal;
 use crate::tables;
 ghost use mathlib.Core.Path.{_≡_};
-ghost use Prim.Native.Nat.{ℕ, _+_, _-_, _/_, _%_, _<_};
+ghost use Prim.Native.Nat.{ℕ, _+_, _-_, _/_, _%_, _<_, _≤_};
 ghost use lib.ListN.{getD, length};
 ghost use Rattle.numbers.specs.Modulus.{P};
 ghost use Rattle.tip5.specs.Judge.{unless};
@@ -53,22 +53,17 @@ fn five_rounds_with(table: &[u8; 256], constants: &[u64; 80], state: [u64; 16]) 
     round_with(table, constants, 4, s4)
 }
 
-fn one_round(round: usize, state: [u64; 16]) -> [u64; 16]
-    requires { ⌜ (round < 5) × ((k : ℕ) → getD state k 0 < P) ⌝ }
-    ensures { λ r. ⌜ r ≡ Round.round round state ⌝ }
+// Round 0 to 4 or, for 5, all five. The tables are laid out here and nowhere else.
+fn rounds_of(which: usize, state: [u64; 16]) -> [u64; 16]
+    requires { ⌜ (which ≤ 5) × ((k : ℕ) → getD state k 0 < P) ⌝ }
+    ensures { λ r. ⌜ (which < 5 → r ≡ Round.round which state) × (which ≡ 5 → r ≡ permuted state) ⌝ }
 {
     let table = tables::LOOKUP_TABLE;
     let constants = tables::ROUND_CONSTANTS;
-    round_with(&table, &constants, round, state)
-}
-
-fn five_rounds(state: [u64; 16]) -> [u64; 16]
-    requires { ⌜ ((k : ℕ) → getD state k 0 < P) ⌝ }
-    ensures { λ r. ⌜ r ≡ permuted state ⌝ }
-{
-    let table = tables::LOOKUP_TABLE;
-    let constants = tables::ROUND_CONSTANTS;
-    five_rounds_with(&table, &constants, state)
+    if which == 5 {
+        return five_rounds_with(&table, &constants, state);
+    }
+    round_with(&table, &constants, which, state)
 }
 
 // The state after five rounds.
@@ -81,7 +76,7 @@ pub fn permutation(state: [u64; 16]) -> StateAnswer
     }
     StateAnswer {
         refusal,
-        state: five_rounds(state),
+        state: rounds_of(5, state),
     }
 }
 
@@ -101,7 +96,7 @@ pub fn round(round: usize, state: [u64; 16]) -> StateAnswer
     }
     StateAnswer {
         refusal,
-        state: one_round(round, state),
+        state: rounds_of(round, state),
     }
 }
 
@@ -117,7 +112,7 @@ fn entering(k: usize, state: [u64; 16]) -> [u64; 16]
     if k == 0 {
         return state;
     }
-    one_round(k / 16 - 1, state)
+    rounds_of(k / 16 - 1, state)
 }
 
 fn six_states(state: [u64; 16]) -> [u64; 96]

@@ -1,11 +1,19 @@
 // The refusals' numbers, as every call answers them: 0 for none.
 
 pub const NONE: u8 = 0;
-// A raw word is not below P.
+// A raw word, or a value on a sheet, is not below P.
 pub const BAD_WORD: u8 = 1;
 // A slice does not have the length that it must have.
 pub const WRONG_LENGTH: u8 = 2;
-// A slice is not as long as its columns make it, a width is not 1 or 3, or a view is bad.
+// A bound that is not a power of two.
+pub const BAD_BOUND: u8 = 3;
+// A sheet that is shorter than its header, or not as long as its header says.
+pub const WRONG_SHEET_LENGTH: u8 = 4;
+// A sheet whose header says what no sheet's does.
+pub const BAD_HEADER: u8 = 5;
+// The allowance is spent, and indices are missing.
+pub const ALLOWANCE_SPENT: u8 = 6;
+// The columns, their width or a view do not fit the words.
 pub const WRONG_SHAPE: u8 = 7;
 // A round number over 4.
 pub const NO_SUCH_ROUND: u8 = 8;

@@ -34,7 +34,7 @@ pub const ITEMS: [Item; 3] = [
 impl Item {
     /// Our side, where libprobe.a is linked and has the call.
     pub fn ours(&self) -> Option<Box<dyn Side>> {
-        let call = calls::on_words(self.call)?;
+        let call = calls::on_state(self.call)?;
         Some(Box::new(Ours::new(call)))
     }
 

@@ -1,6 +1,6 @@
 //! One side of a comparison: a block of states that it holds as its calls want them.
 
-use calls::OnWords;
+use calls::OnState;
 use oracle::State;
 use oracle::timed::{self, Inverse, Sponge};
 
@@ -17,14 +17,14 @@ pub trait Side {
 #[repr(align(64))]
 struct Aligned(State);
 
-/// Our side: a linked call on sixteen words.
+/// Our side: a linked call on a state.
 pub struct Ours {
-    call: OnWords,
+    call: OnState,
     held: Vec<Aligned>,
 }
 
 impl Ours {
-    pub fn new(call: OnWords) -> Self {
+    pub fn new(call: OnState) -> Self {
         let held = vec![];
         Self { call, held }
     }
@@ -38,9 +38,7 @@ impl Side for Ours {
 
     fn run(&mut self) {
         for Aligned(state) in &mut self.held {
-            // SAFETY: the call takes a slice of words, and these are lent to it alone.
-            let refusal = unsafe { (self.call)(state.as_mut_ptr(), state.len()) };
-            assert_eq!(refusal, 0);
+            assert_eq!((self.call)(state), 0);
         }
     }
 

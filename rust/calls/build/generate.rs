@@ -33,7 +33,10 @@ pub fn table(calls: &[Call]) -> String {
 fn table_param(param: &Param) -> String {
     match param {
         Param::Number(_) => "Param::Number".to_string(),
-        Param::Place(item) => format!("Param::Place(Item::{})", rust_type(item).to_uppercase()),
+        Param::Array { item, length, .. } => {
+            let item = rust_type(item).to_uppercase();
+            format!("Param::Array(Item::{item}, {length})")
+        }
         Param::Slice { item, .. } => {
             format!("Param::Slice(Item::{})", rust_type(item).to_uppercase())
         }
@@ -56,13 +59,12 @@ pub fn rust_calls(calls: &[Call]) -> String {
                         narrow => format!("args[{i}].word as {narrow}"),
                     });
                 }
-                Param::Place(item) => {
-                    types.push(format!("*mut {}", rust_type(item)));
+                Param::Array { item, shared, .. } => {
+                    types.push(rust_pointer(item, *shared));
                     values.push(format!("args[{i}].data.cast()"));
                 }
                 Param::Slice { item, shared } => {
-                    let kind = if *shared { "*const" } else { "*mut" };
-                    types.push(format!("{kind} {}", rust_type(item)));
+                    types.push(rust_pointer(item, *shared));
                     types.push("usize".to_string());
                     values.push(format!("args[{i}].data.cast()"));
                     values.push(format!("args[{i}].length"));
@@ -79,26 +81,61 @@ pub fn rust_calls(calls: &[Call]) -> String {
          pub unsafe fn call(index: usize, args: &[Raw]) -> u32 {{\n    \
              unsafe {{\n        match index {{\n{arms}            \
              _ => unreachable!(),\n        }}\n    }}\n}}\n\n{}\n{}",
-        by_name(calls, "on_words", "OnWords", |params| matches!(
-            params,
-            [Param::Slice { item, shared: false }] if item == "uint64_t"
-        )),
-        by_name(calls, "on_list", "OnList", |params| matches!(
-            params,
+        by_name(calls, "on_state", "OnState", |params| match params {
             [
-                Param::Slice { item: from, shared: true },
-                Param::Slice { item: to, shared: false },
-            ] if from == "uint64_t" && to == "uint64_t"
-        )),
+                Param::Slice {
+                    item,
+                    shared: false,
+                },
+            ] if item == "uint64_t" => Some("|state| unsafe { NAME(state.as_mut_ptr(), 16) }"),
+            [
+                Param::Array {
+                    item,
+                    length: 16,
+                    shared: false,
+                },
+            ] if item == "uint64_t" => Some("|state| unsafe { NAME(state.as_mut_ptr()) }"),
+            _ => None,
+        }),
+        by_name(calls, "on_list", "OnList", |params| match params {
+            [
+                Param::Slice {
+                    item: from,
+                    shared: true,
+                },
+                Param::Array {
+                    item: to,
+                    length: 5,
+                    shared: false,
+                },
+            ] if from == "uint64_t" && to == "uint64_t" => Some(
+                "|list, digest| unsafe { NAME(list.as_ptr(), list.len(), digest.as_mut_ptr()) }"
+            ),
+            _ => None,
+        }),
     )
 }
 
-/// A function from names to the linked functions of one shape, as Rust.
-fn by_name(calls: &[Call], name: &str, kind: &str, shape: fn(&[Param]) -> bool) -> String {
-    let fitting = calls.iter().filter(|it| it.present && shape(&it.params));
-    let arms: String = fitting
-        .map(|call| format!("        {0:?} => Some({0}),\n", call.name))
-        .collect();
+/// A pointer to items of a C type, as Rust.
+fn rust_pointer(item: &str, shared: bool) -> String {
+    let kind = if shared { "*const" } else { "*mut" };
+    format!("{kind} {}", rust_type(item))
+}
+
+/// A function from names to the linked functions of one kind, as Rust. `shape` answers the closure
+/// that makes a call with such parameters, NAME standing for the call; none where it has others.
+fn by_name(
+    calls: &[Call],
+    name: &str,
+    kind: &str,
+    shape: fn(&[Param]) -> Option<&'static str>,
+) -> String {
+    let arm = |call: &Call| {
+        let closure = shape(&call.params)?.replace("NAME", &call.name);
+        Some(format!("        {:?} => Some({closure}),\n", call.name))
+    };
+    let present = calls.iter().filter(|call| call.present);
+    let arms: String = present.filter_map(arm).collect();
     format!(
         "pub fn {name}(name: &str) -> Option<{kind}> {{\n    \
              match name {{\n{arms}        _ => None,\n    }}\n}}\n"
@@ -121,7 +158,7 @@ pub fn c_calls(calls: &[Call]) -> String {
                     values.push(format!("args[{i}].word"));
                     shape += "0, ";
                 }
-                Param::Place(item) => {
+                Param::Array { item, .. } => {
                     types.push(format!("{item} *"));
                     values.push(format!("args[{i}].data"));
                     shape += &format!("sizeof({item}), ");

@@ -12,9 +12,13 @@ pub struct Call {
 pub enum Param {
     /// A number of this C type.
     Number(String),
-    /// A place for one item of this C type.
-    Place(String),
-    /// A slice of items of this C type, and whether the call may write to it.
+    /// So many items of this C type, and whether the call only reads them.
+    Array {
+        item: String,
+        length: usize,
+        shared: bool,
+    },
+    /// A slice of items of this C type, and whether the call only reads it.
     Slice { item: String, shared: bool },
 }
 
@@ -32,16 +36,21 @@ fn call(line: &str) -> Option<Call> {
     let mut words = rest.strip_suffix(");")?.split(", ").peekable();
     while let Some(word) = words.next() {
         let (kind, name) = word.rsplit_once(' ')?;
-        let pointer = name.starts_with('*');
+        let shared = kind.starts_with("const ");
         let item = kind.strip_prefix("const ").unwrap_or(kind).to_string();
-        let length = pointer && words.next_if(|next| next.starts_with("size_t ")).is_some();
-        params.push(match (pointer, length) {
-            (true, true) => Param::Slice {
+        params.push(if let Some(name) = name.strip_suffix(']') {
+            let length = name.split_once('[')?.1.parse().ok()?;
+            Param::Array {
                 item,
-                shared: kind.starts_with("const "),
-            },
-            (true, false) => Param::Place(item),
-            _ => Param::Number(item),
+                length,
+                shared,
+            }
+        } else if !name.starts_with('*') {
+            Param::Number(item)
+        } else if words.next_if(|next| next.starts_with("size_t ")).is_some() {
+            Param::Slice { item, shared }
+        } else {
+            return None;
         });
     }
     Some(Call {

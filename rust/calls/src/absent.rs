@@ -1,6 +1,6 @@
 //! No archive was named when this was built, so there is no way to our calls.
 
-use crate::{Answer, OnList, OnWords, Request};
+use crate::{Answer, OnList, OnState, Request};
 
 pub enum Way {}
 
@@ -19,7 +19,7 @@ impl Way {
 }
 
 /// Nothing is linked here.
-pub fn on_words(_: &str) -> Option<OnWords> {
+pub fn on_state(_: &str) -> Option<OnState> {
     None
 }
 

@@ -11,14 +11,14 @@ mod way;
 
 pub use table::{CALLS, Call, Item, Param};
 use way::Way;
-pub use way::{on_list, on_words};
+pub use way::{on_list, on_state};
 
 /// What goes into a call or comes back from it.
 #[derive(Debug, Clone, PartialEq, Eq)]
 pub enum Arg {
     /// A number.
     Number(u64),
-    /// A place for one item, or a slice of items.
+    /// An array or a slice of items.
     Words(Vec<u64>),
     Indices(Vec<u32>),
     Bytes(Vec<u8>),
@@ -68,11 +68,11 @@ pub struct Answer {
     pub strayed: bool,
 }
 
-/// A linked call on one slice of words, as it is, for timing.
-pub type OnWords = unsafe extern "C" fn(*mut u64, usize) -> u32;
+/// A linked call on one state, for timing.
+pub type OnState = fn(&mut [u64; 16]) -> u32;
 
-/// A linked call on a list of words and room for its answer, as it is, for timing.
-pub type OnList = unsafe extern "C" fn(*const u64, usize, *mut u64, usize) -> u32;
+/// A linked call on a list of words and room for its digest, for timing.
+pub type OnList = fn(&[u64], &mut [u64; 5]) -> u32;
 
 /// The way to our calls.
 pub struct Ours(Way);

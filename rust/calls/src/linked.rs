@@ -5,10 +5,10 @@ use crate::{Answer, Arg, Request};
 /// The linked functions, which the build script writes from `probe.h`.
 mod functions {
     use super::Raw;
-    use crate::{OnList, OnWords};
+    use crate::{OnList, OnState};
     include!(concat!(env!("OUT_DIR"), "/linked.rs"));
 }
-pub use functions::{on_list, on_words};
+pub use functions::{on_list, on_state};
 
 /// An argument: a number, or the address and the number of items of what is lent.
 #[allow(dead_code)] // a short list of calls may have no argument of one kind

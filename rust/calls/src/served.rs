@@ -1,7 +1,7 @@
 //! Our calls, made by the server: an x86-64 program that the kit's emulator runs. `server.c` says
 //! what is written and read.
 
-use crate::{Answer, Arg, OnList, OnWords, Request};
+use crate::{Answer, Arg, OnList, OnState, Request};
 use std::io::{Read, Write};
 use std::process::{Child, Command, Stdio};
 
@@ -101,7 +101,7 @@ fn take<'a>(rest: &mut &'a [u8], size: usize) -> &'a [u8] {
 }
 
 /// Nothing is linked here.
-pub fn on_words(_: &str) -> Option<OnWords> {
+pub fn on_state(_: &str) -> Option<OnState> {
     None
 }
 

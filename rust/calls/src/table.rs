@@ -11,11 +11,12 @@ pub struct Call {
 /// A parameter; a slice's pointer and length are one.
 pub enum Param {
     Number,
-    Place(Item),
+    /// So many items.
+    Array(Item, usize),
     Slice(Item),
 }
 
-/// What stands in a place or a slice.
+/// What stands in an array or a slice.
 pub enum Item {
     U8,
     U32,

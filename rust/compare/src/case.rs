@@ -50,12 +50,12 @@ impl Case {
         self.arg(Arg::Words(vec![UNWRITTEN]), Arg::Words(vec![want]))
     }
 
-    /// A slice of words, and what it is to hold after the call.
+    /// An array or a slice of words, and what it is to hold after the call.
     pub fn words(self, before: &[u64], want: &[u64]) -> Self {
         self.arg(Arg::Words(before.to_vec()), Arg::Words(want.to_vec()))
     }
 
-    /// A slice of words that the call leaves alone.
+    /// The same, which the call leaves alone.
     pub fn kept(self, words: &[u64]) -> Self {
         self.words(words, words)
     }
@@ -64,7 +64,7 @@ impl Case {
         let call = &CALLS[self.request.call];
         let fits = match (&call.params[self.request.args.len()], &before) {
             (Param::Number, Arg::Number(_)) => true,
-            (Param::Place(Item::U64), Arg::Words(words)) => words.len() == 1,
+            (Param::Array(Item::U64, length), Arg::Words(words)) => words.len() == *length,
             (Param::Slice(Item::U64), Arg::Words(_)) => true,
             (Param::Slice(Item::U32), Arg::Indices(_)) => true,
             (Param::Slice(Item::U8), Arg::Bytes(_)) => true,

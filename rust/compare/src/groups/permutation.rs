@@ -105,7 +105,8 @@ fn traces(random: &mut Random, count: usize, push: Push) {
     for _ in 0..count / 10 {
         let room: Vec<u64> = (0..96).map(|_| random.word()).collect();
         if random.once_in(REFUSED) {
-            push(refused_trace(random, &room));
+            let bad = refusals::bad_state(random);
+            push(Case::new(call).kept(&bad).words(&room, &[0; 96]).refused(1));
             continue;
         }
         let state = state(random);
@@ -114,34 +115,9 @@ fn traces(random: &mut Random, count: usize, push: Push) {
     }
 }
 
-/// A refused trace leaves zeros in room for six states, and other room alone.
-fn refused_trace(random: &mut Random, room: &[u64]) -> Case {
-    let case = Case::new("probe_trace");
-    match random.below(3) {
-        0 => {
-            let state = refusals::not_sixteen(random);
-            case.kept(&state).words(room, &[0; 96]).refused(2)
-        }
-        1 => {
-            let state = refusals::bad_state(random);
-            case.kept(&state).words(room, &[0; 96]).refused(1)
-        }
-        _ => {
-            let short = random.below(96) as usize;
-            let state = states::mixed(random);
-            case.kept(&state).kept(&room[..short]).refused(2)
-        }
-    }
-}
-
 fn generated_functions(random: &mut Random, count: usize, push: Push) {
     let call = "probe_generated_function";
     for _ in 0..count / 10 {
-        if random.once_in(REFUSED) {
-            let words = refusals::not_sixteen(random);
-            push(Case::new(call).kept(&words).refused(2));
-            continue;
-        }
         // Any words, or as the matrix layer hands them in, halves.
         let shift = random.pick(&[0, 32]);
         let words: State = std::array::from_fn(|_| words::any(random) >> shift);

@@ -1,6 +1,5 @@
 -- `layers::add_constants` meets its contract.
 -- Assumes nothing.
-use mathlib.Core.List.{List}
 use mathlib.Core.Path.{_≡_, sym, ap, subst, _∙_}
 use Prim.Native.Nat.{ℕ, _+_, _-_, _*_, _≤_, _<_}
 use native.Mathlib.Omega.{arith}
@@ -11,12 +10,10 @@ use mir.Val.{Fits}
 use Rattle.numbers.specs.Fill.{Filled}
 use Rattle.numbers.specs.Modulus.{P}
 use Rattle.numbers.proofs.Fill.{filled-none, filled-more, filled-all}
-use Rattle.numbers.proofs.Lists.{getD-tab₀}
 use Rattle.tip5.proofs.ConstantLaws.{constant-bound}
+use Rattle.tip5.proofs.LentTables.{constant-read}
 use Rattle.tip5.proofs.ReducedLaws.{mended}
-use Rattle.tip5.specs.Constants.{roundConstants}
-use Rattle.tip5.specs.Field.{add, rawOf}
-use Rattle.tip5.specs.Tables.{rawConstants}
+use Rattle.tip5.specs.Field.{add}
 use Rattle.tip5.specs.Round.{addConstants, constant}
 use Rattle.tip5.proofs.layers.add_constants.Statement.{statement}
 use Rattle.tip5.proofs.layers.add_constants.Tie as tie
@@ -26,12 +23,6 @@ Inv-loop constants round words out₀ r₀ out r = Filled 16 (λ k. add (getD wo
 
 abbrev μ-loop : tie.MeasureT-loop
 μ-loop constants round words out₀ r₀ out r = 16 - r
-
--- what the program reads of the lent table is the round's constant
-added : {table : List ℕ} {i r : ℕ} → table ≡ rawConstants → i < 5 → r < 16 → getD table (16 * i + r) 0 ≡ constant i r
-unfolding constant rawConstants
-added {i = i} {r = r} e hi hr =
-    ap (λ (l : List ℕ). getD l (16 * i + r) 0) e ∙ getD-tab₀ 80 (λ k. rawOf (getD roundConstants k 0)) (16 * i + r) (omega arith)
 
 loop-holds : tie.Need-loop-holds Inv-loop μ-loop
 loop-holds c = filled-none _ (search needs)
@@ -58,7 +49,7 @@ add-requires : tie.Need-add-requires Inv-loop μ-loop
 add-requires c κs =
     let w : Fits w64 (getD (c .before .before .before .args .t3) (c .before .before .loop .r) 0) = search needs in
     subst (λ (n : ℕ). (n ≤ P) × (getD (c .before .before .before .args .t3) (c .before .before .loop .r) 0 + n < 2 * P))
-    (sym (added (c .before .before .before .pre .0) (c .before .before .before .pre .1) (c .before .loop-test .taken)))
+    (sym (constant-read (c .before .before .before .pre .0) (c .before .before .before .pre .1) (c .before .loop-test .taken)))
     (mended (w .fits) (constant-bound (c .before .before .before .pre .1) (c .before .loop-test .taken)))
 
 mul-out : tie.Need-mul-out Inv-loop μ-loop
@@ -77,7 +68,7 @@ loop-again : tie.Need-loop-again Inv-loop μ-loop
 loop-again c =
     let s = c .before .before .before .before in
     filled-more (c .before .before .before .loop .inv) (c .before .before .loop-test .taken)
-    (c .add .ensures ∙ ap (add (getD (s .args .t3) (c .before .before .before .loop .r) 0)) (added (s .pre .0) (s .pre .1) (c .before .before .loop-test .taken)))
+    (c .add .ensures ∙ ap (add (getD (s .args .t3) (c .before .before .before .loop .r) 0)) (constant-read (s .pre .0) (s .pre .1) (c .before .before .loop-test .taken)))
 
 returns : tie.Need-returns Inv-loop μ-loop
 unfolding addConstants

@@ -2,7 +2,8 @@
 -- Assumes nothing.
 use Rattle.tip5.proofs.AnswerLaws.{state-granted, state-refused}
 use Rattle.tip5.proofs.JudgeLaws.{accepted-below}
-use mathlib.Core.Path.{sym, _∙_}
+use mathlib.Core.Path.{refl, sym, _∙_}
+use native.Mathlib.Nat.{le-refl}
 use borrow.Author.Needs.{needs}
 use Rattle.tip5.proofs.permutation.permutation.Statement.{statement}
 use Rattle.tip5.proofs.permutation.permutation.Tie as tie
@@ -16,11 +17,11 @@ judge-words-requires c κs = search needs
 returns : tie.Need-returns
 returns c = state-refused _ _ (c .before .judge-words .ensures) (c .if1 .taken)
 
-five-rounds-requires : tie.Need-five-rounds-requires
-five-rounds-requires c κs = accepted-below (c .before .before .before .args .t1) (sym (c .before .judge-words .ensures) ∙ c .if1 .left)
+rounds-of-requires : tie.Need-rounds-of-requires
+rounds-of-requires c κs = (le-refl 5, accepted-below (c .before .before .before .args .t1) (sym (c .before .judge-words .ensures) ∙ c .if1 .left))
 
 returns-2 : tie.Need-returns-2
-returns-2 c = state-granted _ (c .before .before .judge-words .ensures) (c .before .if1 .left) (c .five-rounds .ensures)
+returns-2 c = state-granted _ (c .before .before .judge-words .ensures) (c .before .if1 .left) (c .rounds-of .ensures .1 refl)
 
 pub permutation-spec : {M : Type 1} → statement M
 permutation-spec =
@@ -29,5 +30,5 @@ permutation-spec =
     slice-aggregate-judge-words
     judge-words-requires
     returns
-    five-rounds-requires
+    rounds-of-requires
     returns-2)

@@ -2,6 +2,7 @@
 -- Assumes nothing.
 use mathlib.Core.List.{[], _∷_}
 use mathlib.Core.Path.{sym, _∙_}
+use native.Mathlib.Nat.{le-of-lt}
 use native.Mathlib.Omega.{arith}
 use Rattle.tip5.specs.Judge.{wordRefusal}
 use Rattle.tip5.specs.Round.{round}
@@ -25,11 +26,11 @@ judge-words-requires c κs = search needs
 returns-2 : tie.Need-returns-2
 returns-2 c = state-refused _ _ (c .before .judge-words .ensures ∙ sym (round-accepted _ (c .before .before .before .if1 .left))) (c .if2 .taken)
 
-one-round-requires : tie.Need-one-round-requires
-one-round-requires c κs = (c .before .before .before .if1 .left, accepted-below (c .before .before .before .before .args .t2) (sym (c .before .judge-words .ensures) ∙ c .if2 .left))
+rounds-of-requires : tie.Need-rounds-of-requires
+rounds-of-requires c κs = (le-of-lt (c .before .before .before .if1 .left), accepted-below (c .before .before .before .before .args .t2) (sym (c .before .judge-words .ensures) ∙ c .if2 .left))
 
 returns-3 : tie.Need-returns-3
-returns-3 c = state-granted _ (c .before .before .judge-words .ensures ∙ sym (round-accepted _ (c .before .before .before .before .if1 .left))) (c .before .if2 .left) (c .one-round .ensures)
+returns-3 c = state-granted _ (c .before .before .judge-words .ensures ∙ sym (round-accepted _ (c .before .before .before .before .if1 .left))) (c .before .if2 .left) (c .rounds-of .ensures .0 (c .before .before .before .before .if1 .left))
 
 pub round-spec : {M : Type 1} → statement M
 round-spec =
@@ -39,5 +40,5 @@ round-spec =
     slice-aggregate-judge-words
     judge-words-requires
     returns-2
-    one-round-requires
+    rounds-of-requires
     returns-3)

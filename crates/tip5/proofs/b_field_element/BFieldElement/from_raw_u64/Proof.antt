@@ -6,17 +6,17 @@ use borrow.Author.Tests.{lt-ltb, le-ltb}
 use Rattle.tip5.proofs.b_field_element.BFieldElement.from_raw_u64.Statement.{statement}
 use Rattle.tip5.proofs.b_field_element.BFieldElement.from_raw_u64.Tie as tie
 
-accepted-requires : tie.Need-accepted-requires
-accepted-requires c κs = search needs
-
 refused-requires : tie.Need-refused-requires
 refused-requires c κs = search needs
 
 returns : tie.Need-returns
-returns c = c .accepted .ensures ∙ simp (lt-ltb _ _ (c .before .if1 .taken))
+returns c = c .refused .ensures ∙ simp (le-ltb _ _ (c .before .if1 .taken))
+
+accepted-requires : tie.Need-accepted-requires
+accepted-requires c κs = search needs
 
 returns-2 : tie.Need-returns-2
-returns-2 c = c .refused .ensures ∙ simp (le-ltb _ _ (c .before .if1 .left))
+returns-2 c = c .accepted .ensures ∙ simp (lt-ltb _ _ (c .before .if1 .left))
 
 pub from-raw-u64-spec : {M : Type 1} → statement M
-from-raw-u64-spec = tie.close (tie.spec accepted-requires refused-requires returns returns-2)
+from-raw-u64-spec = tie.close (tie.spec refused-requires returns accepted-requires returns-2)

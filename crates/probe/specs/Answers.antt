@@ -1,0 +1,21 @@
+-- The answer of a call by value, put together from what its wrapper hands out: the refusal that it returns, and what stands
+-- in the room that it was lent for the answer.
+use mathlib.Core.List.{List}
+use Prim.Native.Nat.{ℕ}
+use Rattle.tip5.specs.Element.{elementOf}
+use Rattle.tip5.specs.declared.b_field_element.ElementAnswer.{ElementAnswer}
+use Rattle.tip5.specs.declared.b_field_element.ValueAnswer.{ValueAnswer}
+use Rattle.tip5.specs.declared.b_field_element.WordAnswer.{WordAnswer}
+use Rattle.tip5.specs.declared.permutation.TraceAnswer.{TraceAnswer}
+
+abbrev pub elementAnswer : (refusal raw : ℕ) → ElementAnswer
+elementAnswer n w = record { refusal = n; element = elementOf w }
+
+abbrev pub wordAnswer : (refusal word : ℕ) → WordAnswer
+wordAnswer n w = record { refusal = n; word = w }
+
+abbrev pub valueAnswer : (refusal value : ℕ) → ValueAnswer
+valueAnswer n v = record { refusal = n; value = record { 0 = v } }
+
+abbrev pub traceAnswer : (refusal : ℕ) (states : List ℕ) → TraceAnswer
+traceAnswer n s = record { refusal = n; states = s }

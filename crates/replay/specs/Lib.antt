@@ -1,0 +1,2 @@
+-- What it is for two lists to differ.
+pub mod Difference

@@ -1,0 +1,96 @@
+-- The refusals of a sheet in their order: what has been found so far decides the answer of `judge_sheet`.
+-- Assumes nothing.
+use mathlib.Core.Path.{_≡_, refl, sym, ap, _∙_}
+use mathlib.Core.List.{List, [], _∷_}
+use Prim.Native.Nat.{ℕ, zero, suc, _+_, _*_, _^_, _<_}
+use borrow.Author.Tests.{eq-eqb, ne-eqb}
+use lib.ListN.{length, take, drop}
+use Rattle.tip5.specs.Judge.{first}
+use Rattle.sheet.specs.declared.header.Header.{Header}
+use Rattle.sheet.specs.declared.header.HeaderAnswer.{HeaderAnswer}
+use Rattle.sheet.specs.Sheet.{
+  fieldRefusal,
+  headerOf,
+  headerUnless,
+  judgeSheet,
+  readHeader,
+  refusals,
+  refusedSheet,
+  sheetRefusal,
+  shortRefusal,
+  valueRefusal,
+}
+use Rattle.sheet.proofs.BitLaws.{field-below}
+
+-- a refusal that is not 0 is the first
+first-here : {n : ℕ} (ns : List ℕ) → (n ≡ 0 → ⊥) → first (n ∷ ns) ≡ n
+first-here {n = zero} ns h = absurd (h refl)
+first-here {n = suc n} ns h = refl
+
+-- a 0 is passed over
+first-past : {n : ℕ} (ns : List ℕ) → n ≡ 0 → first (n ∷ ns) ≡ first ns
+first-past ns e = ap (λ (n : ℕ). first (n ∷ ns)) e
+
+-- the answer by the sheet's refusal
+judged : (sheet : List ℕ) {n : ℕ} → sheetRefusal sheet ≡ n → headerUnless n sheet ≡ judgeSheet sheet
+judged sheet e = ap (λ (n : ℕ). headerUnless n sheet) (sym e)
+
+-- the same where that is not 0: a refused sheet has no header
+judged-refused : (sheet : List ℕ) {n : ℕ} → sheetRefusal sheet ≡ n → (n ≡ 0 → ⊥) → refusedSheet n ≡ judgeSheet sheet
+judged-refused sheet {n = zero} e h = absurd (h refl)
+judged-refused sheet {n = suc n} e h = judged sheet e
+
+-- `a` is what reading the header answered
+module _ (sheet : List ℕ) (a : HeaderAnswer) (read : a ≡ readHeader sheet) where
+  -- its refusal is that of a sheet without a header
+  short : a .refusal ≡ shortRefusal sheet
+  short = ap (λ (x : HeaderAnswer). x .refusal) read
+
+  -- a sheet without a header
+  pub judged-short : (a .refusal ≡ 0 → ⊥) → a ≡ judgeSheet sheet
+  judged-short h = read ∙ judged sheet (first-here (drop 1 (refusals (headerOf sheet) sheet)) λ e. h (short ∙ e))
+
+  -- and from here on it has one
+  module _ (whole : a .refusal ≡ 0) where
+    -- which was answered
+    pub header-read : a .header ≡ headerOf sheet
+    header-read =
+        ap (λ (x : HeaderAnswer). x .header) read
+        ∙ ap (λ (n : ℕ). headerUnless n sheet .header) (sym short ∙ whole)
+
+    -- thirteen bits, whatever the limit
+    pub elements-below : a .header .elements < 2 ^ 13
+    elements-below = rw header-read (field-below (take 6 sheet) 11 13)
+
+    -- the other refusals decide
+    past-short : sheetRefusal sheet ≡ first (drop 1 (refusals (a .header) sheet))
+    past-short =
+        first-past (drop 1 (refusals (headerOf sheet) sheet)) (sym short ∙ whole)
+        ∙ ap (λ (h : Header). first (drop 1 (refusals h sheet))) (sym header-read)
+
+    -- a header that is refused
+    pub judged-fields : (fieldRefusal (a .header) ≡ 0 → ⊥) → refusedSheet (fieldRefusal (a .header)) ≡ judgeSheet sheet
+    judged-fields h = judged-refused sheet (past-short ∙ first-here (drop 2 (refusals (a .header) sheet)) h) h
+
+    module _ (good : fieldRefusal (a .header) ≡ 0) where
+      -- with good fields, the length and the values decide
+      past-fields : sheetRefusal sheet ≡ first (drop 2 (refusals (a .header) sheet))
+      past-fields = past-short ∙ first-past (drop 2 (refusals (a .header) sheet)) good
+
+      -- a sheet of another length than its header says
+      pub judged-length : (length sheet ≡ 6 + 8 * a .header .elements → ⊥) → refusedSheet 4 ≡ judgeSheet sheet
+      judged-length h = judged sheet (past-fields ∙ simp (ne-eqb _ _ h))
+
+      module _ (exact : length sheet ≡ 6 + 8 * a .header .elements) where
+        -- with the right length, the values decide
+        past-length : sheetRefusal sheet ≡ first (drop 3 (refusals (a .header) sheet))
+        past-length = past-fields ∙ simp (eq-eqb _ _ exact)
+
+        -- a sheet with a value of P or more
+        pub judged-values : (valueRefusal (a .header .elements) sheet ≡ 0 → ⊥)
+            → refusedSheet (valueRefusal (a .header .elements) sheet) ≡ judgeSheet sheet
+        judged-values h = judged-refused sheet (past-length ∙ first-here [] h) h
+
+        -- an accepted sheet
+        pub judged-good : valueRefusal (a .header .elements) sheet ≡ 0 → a ≡ judgeSheet sheet
+        judged-good e = read ∙ ap (λ (n : ℕ). headerUnless n sheet) (sym short ∙ whole) ∙ judged sheet (past-length ∙ first-past [] e)

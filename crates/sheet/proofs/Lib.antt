@@ -1,0 +1,7 @@
+-- The laws of this crate's definitions.
+pub mod Accepted
+pub mod BitLaws
+pub mod JudgeLaws
+pub mod LineLaws
+pub mod PutLaws
+pub mod Tabs

@@ -1,0 +1,6 @@
+-- What the calls of this crate answer.
+pub mod Bits
+pub mod Header
+pub mod Line
+pub mod Put
+pub mod Sheet

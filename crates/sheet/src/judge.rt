@@ -1,0 +1,70 @@
+// Judging a sheet: the refusals in their order, but for 6, which only a draw can meet.
+use crate::elements;
+use crate::header::Header;
+use crate::header::HeaderAnswer;
+use crate::header::read_header;
+use crate::header::refused;
+use tip5::b_field_element::BFieldElement;
+use tip5::refusal;
+ghost use mathlib.Core.Path.{_≡_};
+ghost use Prim.Native.Nat.{_+_, _*_};
+ghost use lib.ListN.{length};
+ghost use Rattle.sheet.specs.Sheet.{fieldRefusal, judgeSheet, valueRefusal};
+
+// The most elements that a sheet may have.
+const ELEMENT_LIMIT: usize = 4096;
+
+// Refusal 5 for a header that no sheet has. A digest sheet's log2, index and allowance fields are
+// not judged.
+fn judge_fields(h: Header) -> u8
+    ensures { λ r. ⌜ r ≡ fieldRefusal h ⌝ }
+{
+    if h.version != 1 {
+        return refusal::BAD_HEADER;
+    }
+    if 2 <= h.job {
+        return refusal::BAD_HEADER;
+    }
+    if ELEMENT_LIMIT < h.elements {
+        return refusal::BAD_HEADER;
+    }
+    refusal::NONE
+}
+
+// Refusal 1 where one of the first n values is P or more.
+fn judge_values(sheet: &[u8], n: usize) -> u8
+    requires { ⌜ length (now sheet) ≡ 6 + 8 * n ⌝ }
+    ensures { λ r. ⌜ r ≡ valueRefusal n (now (sheet .entry)) ⌝ }
+{
+    let mut i = 0;
+    while i < n {
+        if BFieldElement::P <= elements::value(sheet, i) {
+            return refusal::BAD_WORD;
+        }
+        i += 1;
+    }
+    refusal::NONE
+}
+
+// The header of an accepted sheet, or the first refusal.
+pub fn judge_sheet(sheet: &[u8]) -> HeaderAnswer
+    ensures { λ r. ⌜ r ≡ judgeSheet (now (sheet .entry)) ⌝ }
+{
+    let read = read_header(sheet);
+    if read.refusal != refusal::NONE {
+        return read;
+    }
+    let h = read.header;
+    let fields = judge_fields(h);
+    if fields != refusal::NONE {
+        return refused(fields);
+    }
+    if sheet.len() != 6 + 8 * h.elements {
+        return refused(refusal::WRONG_SHEET_LENGTH);
+    }
+    let values = judge_values(sheet, h.elements);
+    if values != refusal::NONE {
+        return refused(values);
+    }
+    read
+}

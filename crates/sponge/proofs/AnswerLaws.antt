@@ -1,0 +1,46 @@
+-- An answer that code made with the refusal n, where the definition has m: granted and refused, for an answer of any type.
+-- Assumes nothing.
+use mathlib.Core.List.{List}
+use mathlib.Core.Path.{_≡_, ap, ap₂, sym, _∙_}
+use Prim.Native.Nat.{ℕ}
+use Rattle.sponge.specs.declared.by_value.SpongeAnswer.{SpongeAnswer}
+use Rattle.sponge.specs.declared.by_value.SqueezeAnswer.{SqueezeAnswer}
+use Rattle.sponge.specs.declared.digest.DigestAnswer.{DigestAnswer}
+use Rattle.sponge.specs.declared.Tip5.{Tip5}
+use Rattle.tip5.specs.declared.permutation.StateAnswer.{StateAnswer}
+use Rattle.tip5.specs.Judge.{unless, wordRefusal}
+use Rattle.tip5.specs.Permutation.{nextState}
+use Rattle.tip5.proofs.AnswerLaws.{unless-granted, unless-refused}
+use Rattle.tip5.proofs.JudgeLaws.{Below, below-accepted}
+
+pub answer-granted : {A B : Type 0} (make : ℕ → A → B) {n m : ℕ} {t next : A} (room : A) → n ≡ m → n ≡ 0 → t ≡ next → make n t ≡ make m (unless m next room)
+answer-granted make {next = next} room e none same = ap₂ make e (same ∙ sym (unless-granted next room (sym e ∙ none)))
+
+pub answer-refused : {A B : Type 0} (make : ℕ → A → B) {n m : ℕ} (next room : A) → n ≡ m → (n ≡ 0 → ⊥) → make n room ≡ make m (unless m next room)
+answer-refused make {m = m} next room e some = ap₂ make e (sym (unless-refused m next room (λ z. some (e ∙ z))))
+
+-- the two answers
+
+abbrev pub spongeAnswer : ℕ → Tip5 → SpongeAnswer
+spongeAnswer n s = record { refusal = n; sponge = s }
+
+abbrev pub digestAnswer : ℕ → List ℕ → DigestAnswer
+digestAnswer n d = record { refusal = n; digest = d }
+
+-- an answer with two rooms
+pub answer-granted₂ : {A B C : Type 0} (make : ℕ → A → B → C) {n m : ℕ} {t next : A} {u more : B} (room : A) (room₂ : B) → n ≡ m → n ≡ 0 → t ≡ next → u ≡ more
+    → make n t u ≡ make m (unless m next room) (unless m more room₂)
+answer-granted₂ make {next = next} {more = more} room room₂ e none same same₂ =
+    λ i. make (e i) ((same ∙ sym (unless-granted next room (sym e ∙ none))) i) ((same₂ ∙ sym (unless-granted more room₂ (sym e ∙ none))) i)
+
+pub answer-refused₂ : {A B C : Type 0} (make : ℕ → A → B → C) {n m : ℕ} (next room : A) (more room₂ : B) → n ≡ m → (n ≡ 0 → ⊥)
+    → make n room room₂ ≡ make m (unless m next room) (unless m more room₂)
+answer-refused₂ make {m = m} next room more room₂ e some =
+    λ i. make (e i) (sym (unless-refused m next room (λ z. some (e ∙ z))) i) (sym (unless-refused m more room₂ (λ z. some (e ∙ z))) i)
+
+abbrev pub squeezeAnswer : ℕ → Tip5 → List ℕ → SqueezeAnswer
+squeezeAnswer n s ten = record { refusal = n; sponge = s; ten = ten }
+
+-- the permutation's answer on words below P
+pub state-next : {a : StateAnswer} {next : List ℕ} (s : List ℕ) → a ≡ nextState (wordRefusal s) next s → Below s → a .state ≡ next
+state-next {next = next} s e h = ap (λ (a : StateAnswer). a .state) e ∙ unless-granted next s (below-accepted s h)

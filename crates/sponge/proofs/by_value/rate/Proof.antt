@@ -1,0 +1,62 @@
+-- `by_value::rate` meets its contract.
+-- Assumes nothing.
+use native.Mathlib.Omega.{arith}
+use Rattle.sponge.specs.Sponge.{rate}
+use Rattle.sponge.proofs.ListLaws.{tab-take}
+use Rattle.sponge.proofs.RecordLaws.{sixteen}
+use borrow.Author.Needs.{needs}
+use Rattle.sponge.proofs.by_value.rate.Statement.{statement}
+use Rattle.sponge.proofs.by_value.rate.Tie as tie
+
+array-read-t5 : tie.Need-array-read-t5
+array-read-t5 c = search needs
+
+array-read-t8 : tie.Need-array-read-t8
+array-read-t8 c = search needs
+
+array-read-t11 : tie.Need-array-read-t11
+array-read-t11 c = search needs
+
+array-read-t14 : tie.Need-array-read-t14
+array-read-t14 c = search needs
+
+array-read-t17 : tie.Need-array-read-t17
+array-read-t17 c = search needs
+
+array-read-t20 : tie.Need-array-read-t20
+array-read-t20 c = search needs
+
+array-read-t23 : tie.Need-array-read-t23
+array-read-t23 c = search needs
+
+array-read-t26 : tie.Need-array-read-t26
+array-read-t26 c = search needs
+
+array-read-t29 : tie.Need-array-read-t29
+array-read-t29 c = search needs
+
+array-read-t32 : tie.Need-array-read-t32
+array-read-t32 c = search needs
+
+returns : tie.Need-returns
+unfolding rate
+returns c =
+    let s = c .before in
+    let long = sixteen (s .args .sponge) _ (s .good .0) in
+    tab-take 10 (s .args .sponge .state) (omega arith)
+
+pub rate-spec : {M : Type 1} → statement M
+rate-spec =
+    tie.close
+    (tie.spec
+    array-read-t5
+    array-read-t8
+    array-read-t11
+    array-read-t14
+    array-read-t17
+    array-read-t20
+    array-read-t23
+    array-read-t26
+    array-read-t29
+    array-read-t32
+    returns)

@@ -1,0 +1,80 @@
+// Judging before anything moves: each answers the first refusal in order, 2 for a wrong length and then 1 for a bad word.
+use crate::DIGEST_LENGTH;
+use crate::RATE;
+use crate::Tip5;
+use tip5::judge::judge_words;
+use tip5::refusal;
+ghost use mathlib.Core.Path.{_≡_};
+ghost use Rattle.sponge.specs.Answers.{absorbRefusal, padRefusal, pairRefusal, tenRefusal};
+ghost use Rattle.tip5.specs.Judge.{lengthRefusal, wordRefusal};
+
+// Refusal 2 where there are not as many words as wanted.
+fn judge_length(wanted: usize, words: &[u64]) -> u8
+    ensures { λ r. ⌜ r ≡ lengthRefusal wanted (now (words .entry)) ⌝ }
+{
+    if words.len() == wanted {
+        refusal::NONE
+    } else {
+        refusal::WRONG_LENGTH
+    }
+}
+
+// Refusal 1 where a word of the sponge is P or more.
+pub(crate) fn judge_sponge(sponge: Tip5) -> u8
+    ensures { λ r. ⌜ r ≡ wordRefusal (sponge .state) ⌝ }
+{
+    let state = sponge.state;
+    judge_words(&state)
+}
+
+// A sponge and an input of any length.
+pub(crate) fn judge_input(sponge: Tip5, input: &[u64]) -> u8
+    ensures { λ r. ⌜ r ≡ padRefusal sponge (now (input .entry)) ⌝ }
+{
+    let refusal = judge_sponge(sponge);
+    if refusal != refusal::NONE {
+        return refusal;
+    }
+    judge_words(input)
+}
+
+// A sponge and ten words.
+pub(crate) fn judge_absorb(sponge: Tip5, ten: &[u64]) -> u8
+    ensures { λ r. ⌜ r ≡ absorbRefusal sponge (now (ten .entry)) ⌝ }
+{
+    let refusal = judge_length(RATE, ten);
+    if refusal != refusal::NONE {
+        return refusal;
+    }
+    judge_input(sponge, ten)
+}
+
+// Ten words.
+pub(crate) fn judge_ten(ten: &[u64]) -> u8
+    ensures { λ r. ⌜ r ≡ tenRefusal (now (ten .entry)) ⌝ }
+{
+    let refusal = judge_length(RATE, ten);
+    if refusal != refusal::NONE {
+        return refusal;
+    }
+    judge_words(ten)
+}
+
+// Two digests.
+pub(crate) fn judge_pair(left: &[u64], right: &[u64]) -> u8
+    ensures { λ r. ⌜ r ≡ pairRefusal (now (left .entry)) (now (right .entry)) ⌝ }
+{
+    let refusal = judge_length(DIGEST_LENGTH, left);
+    if refusal != refusal::NONE {
+        return refusal;
+    }
+    let refusal = judge_length(DIGEST_LENGTH, right);
+    if refusal != refusal::NONE {
+        return refusal;
+    }
+    let refusal = judge_words(left);
+    if refusal != refusal::NONE {
+        return refusal;
+    }
+    judge_words(right)
+}

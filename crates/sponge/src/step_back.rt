@@ -1,0 +1,7 @@
+// One step back.
+
+// The two kinds of steps: there is no third.
+pub enum StepKind {
+    Squeeze,
+    Absorb,
+}

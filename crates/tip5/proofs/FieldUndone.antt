@@ -1,0 +1,53 @@
+-- What undoes a sum and a power on raw words below P.
+-- Assumes nothing.
+use mathlib.Core.Path.{_≡_, sym, ap, _∙_}
+use Prim.Native.Nat.{ℕ, _+_, _-_, _*_, _%_, _^_, _<_}
+use native.Mathlib.Nat.{mul-comm}
+use native.Mathlib.Omega.{arith}
+use Rattle.numbers.specs.Congruence.{Cong}
+use Rattle.numbers.specs.Modulus.{P, rootExponent}
+use Rattle.numbers.proofs.Congruence.{cong-add, cong-eq, cong-mod, cong-multiple, cong-refl, cong-remainder, cong-trans, mod-pow-pow}
+use Rattle.numbers.proofs.Roots.{power-returns-P, seven-roots}
+use Rattle.tip5.specs.Field.{add, power, rawOf, sub, valueOf}
+use Rattle.tip5.proofs.FieldLaws.{rawOf-mod, rawOf-valueOf, valueOf-below, valueOf-rawOf-mod}
+
+-- Sums
+
+pub sub-add : {a b : ℕ} → a < P → b < P → sub (add a b) b ≡ a
+unfolding sub add
+sub-add {a} {b} ha hb =
+    cong-remainder (cong-trans (cong-add cong-mod cong-refl) (cong-trans (cong-eq (whole hb)) (cong-multiple 1))) ha
+  where
+    whole : b < P → a + b + (P - b) ≡ a + 1 * P
+    whole h = omega arith
+
+pub add-sub : {a b : ℕ} → a < P → b < P → add (sub a b) b ≡ a
+unfolding sub add
+add-sub {a} {b} ha hb =
+    cong-remainder (cong-trans (cong-add cong-mod cong-refl) (cong-trans (cong-eq (whole hb)) (cong-multiple 1))) ha
+  where
+    whole : b < P → a + (P - b) + b ≡ a + 1 * P
+    whole h = omega arith
+
+-- Powers
+
+-- a power of a power
+pub power-power : (a j k : ℕ) → power (power a j) k ≡ power a (j * k)
+unfolding power
+power-power a j k =
+    ap (λ (v : ℕ). rawOf (v ^ k)) (valueOf-rawOf-mod (valueOf a ^ j))
+    ∙ sym (rawOf-mod ((valueOf a ^ j % P) ^ k))
+    ∙ ap rawOf (mod-pow-pow (valueOf a) j k P)
+    ∙ rawOf-mod (valueOf a ^ (j * k))
+
+-- the power by 4 * (P - 1) + 1 leads back
+power-returns : {a : ℕ} → a < P → power a (4 * (P - 1) + 1) ≡ a
+unfolding power
+power-returns {a} h =
+    sym (rawOf-mod (valueOf a ^ (4 * (P - 1) + 1))) ∙ ap rawOf (power-returns-P (valueOf a) (valueOf-below a)) ∙ rawOf-valueOf h
+
+pub root-seventh : {a : ℕ} → a < P → power (power a 7) rootExponent ≡ a
+root-seventh {a} h = power-power a 7 rootExponent ∙ ap (power a) seven-roots ∙ power-returns h
+
+pub seventh-root : {a : ℕ} → a < P → power (power a rootExponent) 7 ≡ a
+seventh-root {a} h = power-power a rootExponent 7 ∙ ap (power a) (mul-comm rootExponent 7 ∙ seven-roots) ∙ power-returns h

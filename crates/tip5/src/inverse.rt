@@ -1,0 +1,131 @@
+// The way back: the inverse of each round and of the permutation. Each public call judges its words
+// before anything moves.
+use crate::inverse_layers;
+use crate::inverse_tables;
+use crate::judge::judge_words;
+use crate::permutation::StateAnswer;
+use crate::permutation::put;
+use crate::permutation::sixteen;
+use crate::refusal;
+use crate::tables;
+ghost use mathlib.Core.Path.{_≡_};
+ghost use Prim.Native.Nat.{ℕ, _<_, _≤_};
+ghost use lib.ListN.{getD};
+ghost use Rattle.numbers.specs.Modulus.{P};
+ghost use Rattle.tip5.specs.Inverse.{invOneRound, invPermutation, invPermuted, invRound};
+ghost use Rattle.tip5.specs.InverseTables.{invLookupTable, rawInvColumn};
+ghost use Rattle.tip5.specs.Judge.{unless};
+ghost use Rattle.tip5.specs.Permutation.{roundSliceRefusal, sliceRefusal};
+ghost use Rattle.tip5.specs.Tables.{rawConstants};
+
+fn inv_round_with(
+    table: &[u8; 256],
+    column: &[u64; 16],
+    constants: &[u64; 80],
+    round: usize,
+    state: [u64; 16],
+) -> [u64; 16]
+    requires { ⌜ (now table ≡ invLookupTable) × (now column ≡ rawInvColumn) × (now constants ≡ rawConstants) ⌝ }
+    requires { ⌜ (round < 5) × ((k : ℕ) → getD state k 0 < P) ⌝ }
+    ensures { λ r. ⌜ r ≡ invRound round state ⌝ }
+{
+    let s = inverse_layers::subtract_constants(constants, round, state);
+    let m = inverse_layers::inv_mds_matrix_mul(column, s);
+    inverse_layers::inv_sbox_layer(table, m)
+}
+
+fn five_inv_rounds_with(
+    table: &[u8; 256],
+    column: &[u64; 16],
+    constants: &[u64; 80],
+    state: [u64; 16],
+) -> [u64; 16]
+    requires { ⌜ (now table ≡ invLookupTable) × (now column ≡ rawInvColumn) × (now constants ≡ rawConstants) ⌝ }
+    requires { ⌜ ((k : ℕ) → getD state k 0 < P) ⌝ }
+    ensures { λ r. ⌜ r ≡ invPermuted state ⌝ }
+{
+    let s4 = inv_round_with(table, column, constants, 4, state);
+    let s3 = inv_round_with(table, column, constants, 3, s4);
+    let s2 = inv_round_with(table, column, constants, 2, s3);
+    let s1 = inv_round_with(table, column, constants, 1, s2);
+    inv_round_with(table, column, constants, 0, s1)
+}
+
+// Round 0 to 4 undone or, for 5, all five. The tables are laid out here and nowhere else.
+fn inv_rounds_of(which: usize, state: [u64; 16]) -> [u64; 16]
+    requires { ⌜ (which ≤ 5) × ((k : ℕ) → getD state k 0 < P) ⌝ }
+    ensures { λ r. ⌜ (which < 5 → r ≡ invRound which state) × (which ≡ 5 → r ≡ invPermuted state) ⌝ }
+{
+    let table = inverse_tables::INV_LOOKUP_TABLE;
+    let column = inverse_tables::INV_MDS_MATRIX_FIRST_COLUMN;
+    let constants = tables::ROUND_CONSTANTS;
+    if which == 5 {
+        return five_inv_rounds_with(&table, &column, &constants, state);
+    }
+    inv_round_with(&table, &column, &constants, which, state)
+}
+
+// The state five rounds ago.
+pub fn inv_permutation(state: [u64; 16]) -> StateAnswer
+    ensures { λ r. ⌜ r ≡ invPermutation state ⌝ }
+{
+    let refusal = judge_words(&state);
+    if refusal != refusal::NONE {
+        return StateAnswer { refusal, state };
+    }
+    StateAnswer {
+        refusal,
+        state: inv_rounds_of(5, state),
+    }
+}
+
+// The state before one round, 0 to 4.
+pub fn inv_round(round: usize, state: [u64; 16]) -> StateAnswer
+    ensures { λ r. ⌜ r ≡ invOneRound round state ⌝ }
+{
+    if 5 <= round {
+        return StateAnswer {
+            refusal: refusal::NO_SUCH_ROUND,
+            state,
+        };
+    }
+    let refusal = judge_words(&state);
+    if refusal != refusal::NONE {
+        return StateAnswer { refusal, state };
+    }
+    StateAnswer {
+        refusal,
+        state: inv_rounds_of(round, state),
+    }
+}
+
+// The inverse permutation of a lent slice in place.
+pub fn inv_permute(state: &mut [u64]) -> u8
+    ensures { λ r. ⌜ r ≡ sliceRefusal (now (state .entry)) ⌝ }
+    ensures { λ r. ⌜ now (state .exit) ≡ unless (sliceRefusal (now (state .entry))) (invPermuted (now (state .entry))) (now (state .entry)) ⌝ }
+{
+    if state.len() != 16 {
+        return refusal::WRONG_LENGTH;
+    }
+    let moved = inv_permutation(sixteen(state));
+    let next = moved.state;
+    put(state, next);
+    moved.refusal
+}
+
+// One round undone in a lent slice.
+pub fn inv_permute_round(round: usize, state: &mut [u64]) -> u8
+    ensures { λ r. ⌜ r ≡ roundSliceRefusal round (now (state .entry)) ⌝ }
+    ensures { λ r. ⌜ now (state .exit) ≡ unless (roundSliceRefusal round (now (state .entry))) (invRound round (now (state .entry))) (now (state .entry)) ⌝ }
+{
+    if 5 <= round {
+        return refusal::NO_SUCH_ROUND;
+    }
+    if state.len() != 16 {
+        return refusal::WRONG_LENGTH;
+    }
+    let moved = inv_round(round, sixteen(state));
+    let next = moved.state;
+    put(state, next);
+    moved.refusal
+}
