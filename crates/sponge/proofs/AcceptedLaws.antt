@@ -5,29 +5,34 @@ use mathlib.Core.Path.{_≡_, refl}
 use Prim.Native.Nat.{ℕ}
 use lib.ListN.{length}
 use Rattle.sponge.specs.declared.Tip5.{Tip5}
-use Rattle.sponge.specs.Answers.{absorbRefusal, padRefusal, pairRefusal, tenRefusal}
+use Rattle.sponge.specs.Answers.{hash10Refusal, hashPairRefusal, inputRefusal, placesRefusal, tenRefusal}
 use Rattle.tip5.specs.Judge.{lengthRefusal, wordRefusal}
 use Rattle.tip5.proofs.JudgeLaws.{Below, accepted-below, below-accepted}
 use Rattle.sponge.proofs.RefusalLaws.{accepted-length, first-none, length-accepted, none-first}
 
-pub accepted-pad : (s : Tip5) (input : List ℕ) → padRefusal s input ≡ 0 → Below (s .state) × Below input
-accepted-pad s input e =
+pub accepted-input : (s : Tip5) (input : List ℕ) → inputRefusal s input ≡ 0 → Below (s .state) × Below input
+accepted-input s input e =
     let both = none-first (wordRefusal (s .state)) (wordRefusal input ∷ []) e in
     (accepted-below (s .state) (both .0), accepted-below input (none-first (wordRefusal input) [] (both .1) .0))
 
-pub accepted-absorb : (s : Tip5) (ten : List ℕ) → absorbRefusal s ten ≡ 0 → (length ten ≡ 10) × Below (s .state) × Below ten
-accepted-absorb s ten e =
+pub accepted-ten : (s : Tip5) (ten : List ℕ) → tenRefusal s ten ≡ 0 → (length ten ≡ 10) × Below (s .state) × Below ten
+accepted-ten s ten e =
     let long = none-first (lengthRefusal 10 ten) (wordRefusal (s .state) ∷ wordRefusal ten ∷ []) e in
-    let both = accepted-pad s ten (long .1) in
+    let both = accepted-input s ten (long .1) in
     (accepted-length 10 ten (long .0), both .0, both .1)
 
-pub accepted-ten : (ten : List ℕ) → tenRefusal ten ≡ 0 → (length ten ≡ 10) × Below ten
-accepted-ten ten e =
+pub accepted-places : (s : Tip5) (places : List ℕ) → placesRefusal s places ≡ 0 → (length places ≡ 10) × Below (s .state)
+accepted-places s places e =
+    let long = none-first (lengthRefusal 10 places) (wordRefusal (s .state) ∷ []) e in
+    (accepted-length 10 places (long .0), accepted-below (s .state) (none-first (wordRefusal (s .state)) [] (long .1) .0))
+
+pub accepted-hash10 : (ten : List ℕ) → hash10Refusal ten ≡ 0 → (length ten ≡ 10) × Below ten
+accepted-hash10 ten e =
     let long = none-first (lengthRefusal 10 ten) (wordRefusal ten ∷ []) e in
     (accepted-length 10 ten (long .0), accepted-below ten (none-first (wordRefusal ten) [] (long .1) .0))
 
-pub accepted-pair : (left right : List ℕ) → pairRefusal left right ≡ 0 → ((length left ≡ 5) × (length right ≡ 5)) × (Below left × Below right)
-accepted-pair left right e =
+pub accepted-hashPair : (left right : List ℕ) → hashPairRefusal left right ≡ 0 → ((length left ≡ 5) × (length right ≡ 5)) × (Below left × Below right)
+accepted-hashPair left right e =
     let words = wordRefusal left ∷ wordRefusal right ∷ [] in
     let first = none-first (lengthRefusal 5 left) (lengthRefusal 5 right ∷ words) e in
     let second = none-first (lengthRefusal 5 right) words (first .1) in
@@ -38,7 +43,11 @@ accepted-pair left right e =
 
 -- and the other way round
 
-pub absorb-accepted : (s : Tip5) (ten : List ℕ) → length ten ≡ 10 → Below (s .state) → Below ten → absorbRefusal s ten ≡ 0
-absorb-accepted s ten e hs ht =
+pub ten-accepted : (s : Tip5) (ten : List ℕ) → length ten ≡ 10 → Below (s .state) → Below ten → tenRefusal s ten ≡ 0
+ten-accepted s ten e hs ht =
     first-none (wordRefusal (s .state) ∷ wordRefusal ten ∷ []) (length-accepted ten e)
     (first-none (wordRefusal ten ∷ []) (below-accepted (s .state) hs) (first-none [] (below-accepted ten ht) refl))
+
+pub places-accepted : (s : Tip5) (places : List ℕ) → length places ≡ 10 → Below (s .state) → placesRefusal s places ≡ 0
+places-accepted s places e hs =
+    first-none (wordRefusal (s .state) ∷ []) (length-accepted places e) (first-none [] (below-accepted (s .state) hs) refl)

@@ -2,6 +2,7 @@
 pub mod AcceptedLaws
 pub mod AnswerLaws
 pub mod BelowLaws
+pub mod DigestLaws
 pub mod HistoryLaws
 pub mod ListLaws
 pub mod PaddingLaws

@@ -4,42 +4,41 @@
 use mathlib.Core.List.{List, [], _∷_, reverse, reverseAux}
 use mathlib.Core.Path.{_≡_, refl, ap, ap₂, _∙_}
 use Prim.Native.Nat.{ℕ, zero, suc}
-use lib.ListN.{drop, length, take}
+use lib.ListN.{drop, length, replicate, take}
 use Rattle.sponge.specs.declared.by_value.SpongeAnswer.{SpongeAnswer}
 use Rattle.sponge.specs.declared.step_back.StepKind.{StepKind}
 use Rattle.sponge.specs.declared.step_back.StepKind.the-variants.{Squeeze, Absorb}
 use Rattle.sponge.specs.declared.Tip5.{Tip5}
-use Rattle.sponge.specs.Answers.{absorbRefusal, granted, nextSponge, squeezeRefusal, stepBack}
-use Rattle.sponge.specs.History.{Step, after, run}
+use Rattle.sponge.specs.Answers.{granted, inputRefusal, nextSponge, padAndAbsorbAll, spongeRefusal, stepBack, tenRefusal}
+use Rattle.sponge.specs.History.{Step, after, paddedSteps, run}
 use Rattle.sponge.specs.History.Step.{squeeze, absorb}
 use Rattle.sponge.specs.Sponge.{absorbed, rate, squeezed}
 use Rattle.sponge.specs.WalkBack.{Accepted, AllKept, Keeps, Kept, stepRefusal, walk}
-use Rattle.tip5.specs.Judge.{unless, wordRefusal}
-use Rattle.tip5.proofs.JudgeLaws.{accepted-below, below-accepted}
-use Rattle.sponge.proofs.AcceptedLaws.{absorb-accepted, accepted-absorb}
-use Rattle.sponge.proofs.HistoryLaws.{after-length}
-use Rattle.sponge.proofs.RefusalLaws.{first-none, length-accepted}
+use Rattle.tip5.specs.Judge.{unless}
+use Rattle.tip5.proofs.JudgeLaws.{accepted-below}
+use Rattle.sponge.proofs.AcceptedLaws.{accepted-ten, places-accepted, ten-accepted}
+use Rattle.sponge.proofs.HistoryLaws.{after-length, padded-accepted}
 use Rattle.sponge.proofs.SpongeLaws.{absorbed-below, rate-below, rate-length, squeezed-below, unabsorbed-absorbed, unsqueezed-squeezed}
 
--- an answer whose refusal is none
-next-granted : {n : ℕ} {next s : Tip5} (room : Tip5) → n ≡ 0 → next ≡ s → nextSponge n next room ≡ granted s
+-- an answer whose refusal is none: a call that is not refused makes its steps
+pub next-granted : {n : ℕ} {next s : Tip5} (room : Tip5) → n ≡ 0 → next ≡ s → nextSponge n next room ≡ granted s
 next-granted {next = next} room none same = ap (λ (n : ℕ). nextSponge n next room) none ∙ ap granted same
 
 -- One step
 
-pub back-squeeze : (s : Tip5) (places : List ℕ) → length (s .state) ≡ 16 → squeezeRefusal s ≡ 0 → length places ≡ 10
+pub back-squeeze : (s : Tip5) (places : List ℕ) → length (s .state) ≡ 16 → spongeRefusal s ≡ 0 → length places ≡ 10
     → stepBack Squeeze (squeezed s) places ≡ granted s
 back-squeeze s places e accepted ten =
     next-granted (squeezed s)
-    (first-none (wordRefusal (squeezed s .state) ∷ []) (length-accepted places ten) (first-none [] (below-accepted (squeezed s .state) (squeezed-below s)) refl))
+    (places-accepted (squeezed s) places ten (squeezed-below s))
     (unsqueezed-squeezed s e (accepted-below (s .state) accepted))
 
-pub back-absorb : (s : Tip5) (ten : List ℕ) → length (s .state) ≡ 16 → absorbRefusal s ten ≡ 0
+pub back-absorb : (s : Tip5) (ten : List ℕ) → length (s .state) ≡ 16 → tenRefusal s ten ≡ 0
     → stepBack Absorb (absorbed ten s) (rate s) ≡ granted s
 back-absorb s ten e accepted =
-    let words = accepted-absorb s ten accepted in
+    let words = accepted-ten s ten accepted in
     next-granted (absorbed ten s)
-    (absorb-accepted (absorbed ten s) (rate s) (rate-length s e) (absorbed-below ten s) (rate-below s (words .1)))
+    (ten-accepted (absorbed ten s) (rate s) (rate-length s e) (absorbed-below ten s) (rate-below s (words .1)))
     (unabsorbed-absorbed ten s (words .0) (words .2) e (words .1))
 
 pub back-step : (t : Step) (s : Tip5) (k : Kept) → length (s .state) ≡ 16 → stepRefusal t s ≡ 0 → Keeps t s k
@@ -86,3 +85,28 @@ walk-back-to (suc k) (t ∷ ts) s (x ∷ ks) e accepted kept =
 -- the empty history gives the sponge itself
 pub walk-none : (s : Tip5) → walk [] s ≡ granted s
 walk-none s = refl
+
+-- a padded absorb, each ten of which is a step
+pub walk-back-padded : (s : Tip5) (input : List ℕ) (ks : List Kept) → length (s .state) ≡ 16 → inputRefusal s input ≡ 0 → AllKept (paddedSteps input) s ks
+    → walk (reverse ks) (padAndAbsorbAll s input .sponge) ≡ granted s
+walk-back-padded s input ks e accepted kept =
+    ap (λ (a : SpongeAnswer). walk (reverse ks) (a .sponge)) (next-granted s accepted refl)
+    ∙ walk-back (paddedSteps input) s ks e (padded-accepted s input accepted) kept
+
+-- What is kept of a history can always be had: the ten overwritten words, and beside a squeeze ten zeros
+
+abbrev pub keep : Step → Tip5 → Kept
+keep squeeze s = record { kind = Squeeze; ten = replicate 10 0 }
+keep (absorb ten) s = record { kind = Absorb; ten = rate s }
+
+abbrev pub keepAll : List Step → Tip5 → List Kept
+keepAll [] s = []
+keepAll (t ∷ ts) s = keep t s ∷ keepAll ts (after t s)
+
+keeps : (t : Step) (s : Tip5) → Keeps t s (keep t s)
+keeps squeeze s = (refl, refl)
+keeps (absorb ten) s = (refl, refl)
+
+pub all-kept : (ts : List Step) (s : Tip5) → AllKept ts s (keepAll ts s)
+all-kept [] s = tt
+all-kept (t ∷ ts) s = (keeps t s, all-kept ts (after t s))

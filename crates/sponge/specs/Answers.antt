@@ -14,6 +14,34 @@ use Rattle.sponge.specs.History.{paddedSteps, run}
 use Rattle.sponge.specs.Sponge.{absorbed, rate, squeezed, unabsorbed, unsqueezed}
 use Rattle.tip5.specs.Judge.{first, lengthRefusal, unless, wordRefusal}
 
+-- What is refused: each list has the refusals in their order
+
+-- a sponge
+abbrev pub spongeRefusal : Tip5 → ℕ
+spongeRefusal s = wordRefusal (s .state)
+
+-- a sponge and an input of any length
+abbrev pub inputRefusal : Tip5 → (input : List ℕ) → ℕ
+inputRefusal s input = first (wordRefusal (s .state) ∷ wordRefusal input ∷ [])
+
+-- a sponge and ten words
+abbrev pub tenRefusal : Tip5 → (ten : List ℕ) → ℕ
+tenRefusal s ten = first (lengthRefusal 10 ten ∷ wordRefusal (s .state) ∷ wordRefusal ten ∷ [])
+
+-- a sponge and ten places, whose words are not judged
+abbrev pub placesRefusal : Tip5 → (places : List ℕ) → ℕ
+placesRefusal s places = first (lengthRefusal 10 places ∷ wordRefusal (s .state) ∷ [])
+
+-- ten words to hash
+abbrev pub hash10Refusal : (ten : List ℕ) → ℕ
+hash10Refusal ten = first (lengthRefusal 10 ten ∷ wordRefusal ten ∷ [])
+
+-- two digests to hash
+abbrev pub hashPairRefusal : (left right : List ℕ) → ℕ
+hashPairRefusal left right = first (lengthRefusal 5 left ∷ lengthRefusal 5 right ∷ wordRefusal left ∷ wordRefusal right ∷ [])
+
+-- The sponge
+
 -- the next sponge, or the one that went in where the call is refused
 abbrev pub nextSponge : (refusal : ℕ) (next sponge : Tip5) → SpongeAnswer
 nextSponge n next s = record { refusal = n; sponge = unless n next s }
@@ -22,52 +50,35 @@ nextSponge n next s = record { refusal = n; sponge = unless n next s }
 abbrev pub granted : Tip5 → SpongeAnswer
 granted s = nextSponge 0 s s
 
+abbrev pub absorb : Tip5 → (ten : List ℕ) → SpongeAnswer
+absorb s ten = nextSponge (tenRefusal s ten) (absorbed ten s) s
+
+abbrev pub squeeze : Tip5 → SqueezeAnswer
+squeeze s = record { refusal = spongeRefusal s; sponge = unless (spongeRefusal s) (squeezed s) s; ten = unless (spongeRefusal s) (rate s) (replicate 10 0) }
+
+abbrev pub padAndAbsorbAll : Tip5 → (input : List ℕ) → SpongeAnswer
+padAndAbsorbAll s input = nextSponge (inputRefusal s input) (run (paddedSteps input) s) s
+
+-- Digests
+
 -- a digest, or five zeros where the call is refused
 abbrev pub newDigest : (refusal : ℕ) (digest : List ℕ) → DigestAnswer
 newDigest n d = record { refusal = n; digest = unless n d (replicate 5 0) }
 
--- The sponge
-
-abbrev pub absorbRefusal : Tip5 → (ten : List ℕ) → ℕ
-absorbRefusal s ten = first (lengthRefusal 10 ten ∷ wordRefusal (s .state) ∷ wordRefusal ten ∷ [])
-
-abbrev pub absorb : Tip5 → (ten : List ℕ) → SpongeAnswer
-absorb s ten = nextSponge (absorbRefusal s ten) (absorbed ten s) s
-
-abbrev pub squeezeRefusal : Tip5 → ℕ
-squeezeRefusal s = wordRefusal (s .state)
-
-abbrev pub squeeze : Tip5 → SqueezeAnswer
-squeeze s = record { refusal = squeezeRefusal s; sponge = unless (squeezeRefusal s) (squeezed s) s; ten = unless (squeezeRefusal s) (rate s) (replicate 10 0) }
-
-abbrev pub padRefusal : Tip5 → (input : List ℕ) → ℕ
-padRefusal s input = first (wordRefusal (s .state) ∷ wordRefusal input ∷ [])
-
-abbrev pub padAndAbsorbAll : Tip5 → (input : List ℕ) → SpongeAnswer
-padAndAbsorbAll s input = nextSponge (padRefusal s input) (run (paddedSteps input) s) s
-
--- Digests
-
-abbrev pub tenRefusal : (ten : List ℕ) → ℕ
-tenRefusal ten = first (lengthRefusal 10 ten ∷ wordRefusal ten ∷ [])
-
 abbrev pub hash10 : (ten : List ℕ) → DigestAnswer
-hash10 ten = newDigest (tenRefusal ten) (digestOfTen ten)
-
-abbrev pub pairRefusal : (left right : List ℕ) → ℕ
-pairRefusal left right = first (lengthRefusal 5 left ∷ lengthRefusal 5 right ∷ wordRefusal left ∷ wordRefusal right ∷ [])
+hash10 ten = newDigest (hash10Refusal ten) (digestOfTen ten)
 
 abbrev pub hashPair : (left right : List ℕ) → DigestAnswer
-hashPair left right = newDigest (pairRefusal left right) (digestOfPair left right)
+hashPair left right = newDigest (hashPairRefusal left right) (digestOfPair left right)
 
 abbrev pub hashVarlen : (input : List ℕ) → DigestAnswer
 hashVarlen input = newDigest (wordRefusal input) (digestOf input)
 
--- One step back: the ten places beside a squeeze are not judged
+-- One step back
 
 abbrev pub stepBackRefusal : StepKind → Tip5 → (ten : List ℕ) → ℕ
-stepBackRefusal Squeeze s ten = first (lengthRefusal 10 ten ∷ wordRefusal (s .state) ∷ [])
-stepBackRefusal Absorb s ten = first (lengthRefusal 10 ten ∷ wordRefusal (s .state) ∷ wordRefusal ten ∷ [])
+stepBackRefusal Squeeze s ten = placesRefusal s ten
+stepBackRefusal Absorb s ten = tenRefusal s ten
 
 abbrev pub steppedBack : StepKind → Tip5 → (ten : List ℕ) → Tip5
 steppedBack Squeeze s ten = unsqueezed s

@@ -1,9 +1,9 @@
 // The sponge by value: each call judges all its words before anything moves and answers the next sponge.
 use crate::RATE;
 use crate::Tip5;
-use crate::judge::judge_absorb;
 use crate::judge::judge_input;
 use crate::judge::judge_sponge;
+use crate::judge::judge_ten;
 use crate::padding::last_ten;
 use crate::put::put;
 use tip5::permutation::permutation;
@@ -89,7 +89,7 @@ pub(crate) fn absorbed_all(sponge: Tip5, input: &[u64]) -> Tip5
 pub fn absorb(sponge: Tip5, ten: &[u64]) -> SpongeAnswer
     ensures { λ r. ⌜ r ≡ Answers.absorb sponge (now (ten .entry)) ⌝ }
 {
-    let refusal = judge_absorb(sponge, ten);
+    let refusal = judge_ten(sponge, ten);
     if refusal != refusal::NONE {
         return SpongeAnswer { refusal, sponge };
     }
@@ -111,10 +111,12 @@ pub fn squeeze(sponge: Tip5) -> SqueezeAnswer
             ten: [0; 10],
         };
     }
+    let next = permute(sponge);
+    let ten = rate(sponge);
     SqueezeAnswer {
         refusal,
-        sponge: permute(sponge),
-        ten: rate(sponge),
+        sponge: next,
+        ten,
     }
 }
 

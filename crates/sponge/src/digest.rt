@@ -3,8 +3,8 @@ use crate::Domain;
 use crate::Tip5;
 use crate::by_value::absorbed;
 use crate::by_value::absorbed_all;
-use crate::judge::judge_pair;
-use crate::judge::judge_ten;
+use crate::judge::judge_hash_10;
+use crate::judge::judge_hash_pair;
 use crate::put::put;
 use tip5::judge::judge_words;
 use tip5::refusal;
@@ -74,7 +74,7 @@ impl Tip5 {
     pub fn hash_10(input: &[u64]) -> DigestAnswer
         ensures { λ r. ⌜ r ≡ hash10 (now (input .entry)) ⌝ }
     {
-        let refusal = judge_ten(input);
+        let refusal = judge_hash_10(input);
         if refusal != refusal::NONE {
             return DigestAnswer {
                 refusal,
@@ -91,7 +91,7 @@ impl Tip5 {
     pub fn hash_pair(left: &[u64], right: &[u64]) -> DigestAnswer
         ensures { λ r. ⌜ r ≡ hashPair (now (left .entry)) (now (right .entry)) ⌝ }
     {
-        let refusal = judge_pair(left, right);
+        let refusal = judge_hash_pair(left, right);
         if refusal != refusal::NONE {
             return DigestAnswer {
                 refusal,

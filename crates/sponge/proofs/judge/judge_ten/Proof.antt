@@ -1,9 +1,7 @@
 -- `judge::judge_ten` meets its contract.
 -- Assumes nothing.
 use mathlib.Core.List.{[], _∷_}
-use mathlib.Core.Path.{sym, _∙_}
 use Rattle.tip5.specs.Judge.{wordRefusal}
-use Rattle.tip5.proofs.AnswerLaws.{first-one}
 use Rattle.sponge.proofs.RefusalLaws.{first-goes-on, first-stops}
 use borrow.Author.Needs.{needs}
 use Rattle.sponge.proofs.judge.judge_ten.Statement.{statement}
@@ -14,17 +12,18 @@ judge-length-requires c κs = search needs
 
 returns : tie.Need-returns
 returns c =
-    let ten = c .before .before .before .args .ten .now in
-    first-stops (wordRefusal ten ∷ []) (c .before .judge-length .ensures) (c .if1 .taken)
+    let a = c .before .before .before .args in
+    first-stops (wordRefusal (a .sponge .state) ∷ wordRefusal (a .ten .now) ∷ []) (c .before .judge-length .ensures) (c .if1 .taken)
 
-judge-words-requires : tie.Need-judge-words-requires
-judge-words-requires c κs = search needs
+judge-input-requires : tie.Need-judge-input-requires
+judge-input-requires c κs = search needs
 
 returns-2 : tie.Need-returns-2
 returns-2 c =
-    let ten = c .before .before .before .before .args .ten .now in
-    first-goes-on (wordRefusal ten ∷ []) (c .before .before .judge-length .ensures) (c .before .if1 .left)
-    (c .judge-words .ensures ∙ sym (first-one (wordRefusal ten)))
+    let a = c .before .before .before .before .args in
+    first-goes-on (wordRefusal (a .sponge .state) ∷ wordRefusal (a .ten .now) ∷ []) (c .before .before .judge-length .ensures) (c .before .if1 .left)
+    (c .judge-input .ensures)
 
 pub judge-ten-spec : {M : Type 1} → statement M
-judge-ten-spec = tie.close (tie.spec judge-length-requires returns judge-words-requires returns-2)
+judge-ten-spec =
+    tie.close (tie.spec judge-length-requires returns judge-input-requires returns-2)

@@ -1,4 +1,4 @@
--- `judge::judge_pair` meets its contract.
+-- `judge::judge_hash_pair` meets its contract.
 -- Assumes nothing.
 use mathlib.Core.List.{[], _∷_}
 use mathlib.Core.Path.{sym, _∙_}
@@ -6,8 +6,8 @@ use Rattle.tip5.specs.Judge.{lengthRefusal, wordRefusal}
 use Rattle.tip5.proofs.AnswerLaws.{first-one}
 use Rattle.sponge.proofs.RefusalLaws.{first-goes-on, first-stops}
 use borrow.Author.Needs.{needs}
-use Rattle.sponge.proofs.judge.judge_pair.Statement.{statement}
-use Rattle.sponge.proofs.judge.judge_pair.Tie as tie
+use Rattle.sponge.proofs.judge.judge_hash_pair.Statement.{statement}
+use Rattle.sponge.proofs.judge.judge_hash_pair.Tie as tie
 
 judge-length-requires : tie.Need-judge-length-requires
 judge-length-requires c κs = search needs
@@ -50,8 +50,8 @@ returns-4 c =
     (first-goes-on (wordRefusal (a .right .now) ∷ []) (c .before .before .judge-words .ensures) (c .before .if3 .left)
     (c .judge-words2 .ensures ∙ sym (first-one (wordRefusal (a .right .now))))))
 
-pub judge-pair-spec : {M : Type 1} → statement M
-judge-pair-spec =
+pub judge-hash-pair-spec : {M : Type 1} → statement M
+judge-hash-pair-spec =
     tie.close
     (tie.spec
     judge-length-requires

@@ -1,0 +1,30 @@
+-- `judge::judge_places` meets its contract.
+-- Assumes nothing.
+use mathlib.Core.List.{[], _∷_}
+use mathlib.Core.Path.{sym, _∙_}
+use Rattle.tip5.specs.Judge.{wordRefusal}
+use Rattle.tip5.proofs.AnswerLaws.{first-one}
+use Rattle.sponge.proofs.RefusalLaws.{first-goes-on, first-stops}
+use borrow.Author.Needs.{needs}
+use Rattle.sponge.proofs.judge.judge_places.Statement.{statement}
+use Rattle.sponge.proofs.judge.judge_places.Tie as tie
+
+judge-length-requires : tie.Need-judge-length-requires
+judge-length-requires c κs = search needs
+
+returns : tie.Need-returns
+returns c =
+    first-stops (wordRefusal (c .before .before .before .args .sponge .state) ∷ []) (c .before .judge-length .ensures) (c .if1 .taken)
+
+judge-sponge-requires : tie.Need-judge-sponge-requires
+judge-sponge-requires c κs = search needs
+
+returns-2 : tie.Need-returns-2
+returns-2 c =
+    let state = c .before .before .before .before .args .sponge .state in
+    first-goes-on (wordRefusal state ∷ []) (c .before .before .judge-length .ensures) (c .before .if1 .left)
+    (c .judge-sponge .ensures ∙ sym (first-one (wordRefusal state)))
+
+pub judge-places-spec : {M : Type 1} → statement M
+judge-places-spec =
+    tie.close (tie.spec judge-length-requires returns judge-sponge-requires returns-2)
