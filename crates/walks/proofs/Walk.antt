@@ -1,7 +1,7 @@
 -- Steps of a walk by hand that several walks make: a local is read, set and freed, and a proved function is called.
 -- In a walk's context each local is a cell, and behind it stands the right to free it; n is where the cell stands.
 -- Assumes nothing.
-use mathlib.Core.Path.{_≡_, subst, sym}
+use mathlib.Core.Path.{_≡_, ap, subst, sym}
 use mathlib.Core.List.{List, [], _∷_}
 use mathlib.Core.Option.{some as present}
 use Prim.Native.Nat.{ℕ, zero, _+_}
@@ -23,7 +23,10 @@ use types.Part.{Part, look-in, sub, whole}
 use types.Run.{Opd, Opds, Rv, assigns, fld, from, init, land, load, look, stop}
 use denote.Laws.{Is, shows}
 use denote.Signature.{Signature, typeAt}
-use denote.Steps.{heard, peeks}
+use denote.Steps.{heard, only, peeks}
+use denote.Struct.Declared.{Declared, row, shape}
+use denote.Struct.Laws as LL
+use denote.Struct.Struct.{layout}
 use denote.Triple.Bound.{Bound, passed}
 use denote.Triple.Call.{calls-from}
 use denote.Triple.Clauses.{Ended, lasts, ensured}
@@ -47,6 +50,16 @@ module _ {M : Type 1} {𝓤 : URA M} {H : Heap 𝓤} {A : Atoms 𝓤} {K : Type 
       → nth 𝓤 H A n Γ ≡ ‵ (froom (spotOf 𝓤 H E i .0) (spotOf 𝓤 H E i .1) zero) → Holds (hasTy (spotOf 𝓤 H E i .0) v) × WT v
       → Step K W (put 𝓤 H A n (‵ (fat fullShare (spotOf 𝓤 H E i .0) (spotOf 𝓤 H E i .1) zero v)) Γ) (runs C Λ E rest q) Γ (lands C Λ E (place i []) v rest q)
   lands-in t n e typed = land t (from t (stop t)) (init t n e typed)
+
+  -- the same by a result r of a declared type: its machine value is written out
+  pub lands-spelt : K → (D : Declared) (L : LL.Laws D) (r : D .D) {C : Calls 𝓤 H} {Λ : Loops 𝓤 H} {q : Post 𝓤 H} {i : ℕ} {rest : Body} {u : Val} → (n : ℕ)
+      → nth 𝓤 H A n Γ ≡ ‵ (froom (spotOf 𝓤 H E i .0) (spotOf 𝓤 H E i .1) zero) → spotOf 𝓤 H E i .0 ≡ layout (shape D) → Is (row D) r (u ∷ [])
+      → Step K W (put 𝓤 H A n (‵ (fat fullShare (spotOf 𝓤 H E i .0) (spotOf 𝓤 H E i .1) zero (LL.val D L r))) Γ) (runs C Λ E rest q) Γ (lands C Λ E (place i []) u rest q)
+  lands-spelt t D L r {C} {Λ} {q} {i} {rest} {u} n e same is =
+      let spelt : u ≡ LL.val D L r = ap only (LL.tells D L r (u ∷ []) is) in
+      let typed : Holds (hasTy (layout (shape D)) u) × WT u = LL.lawful D L 𝓤 H A W .typed r (u ∷ []) is .0 in
+      subst (λ (v : Val). Step K W (put 𝓤 H A n (‵ (fat fullShare (spotOf 𝓤 H E i .0) (spotOf 𝓤 H E i .1) zero v)) Γ) (runs C Λ E rest q) Γ (lands C Λ E (place i []) u rest q)) spelt
+      (lands-in t n e (subst (λ (τ : Ty). Holds (hasTy τ u) × WT u) (sym same) typed))
 
   -- a field of a local is read
   pub field-of : K → (n k : ℕ) {i : ℕ} {q : Share} {ν : Sym} {τs : Tys} {vs : Vals} {τ : Ty} {d : ℕ} → nth 𝓤 H A n Γ ≡ ‵ (fat q (tyStruct ν τs) (spotOf 𝓤 H E i .1) zero (vstruct vs))
