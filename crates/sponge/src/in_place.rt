@@ -44,15 +44,14 @@ pub fn squeeze(sponge: &mut Tip5) -> TenAnswer
     let answer = by_value::squeeze(before);
     let after = answer.sponge;
     *sponge = after;
-    let ten = answer.ten;
     TenAnswer {
         refusal: answer.refusal,
-        ten,
+        ten: answer.ten,
     }
 }
 
 // One step back.
-pub fn step_back(kind: StepKind, sponge: &mut Tip5, ten: &[u64]) -> u8
+pub fn step_back(sponge: &mut Tip5, kind: StepKind, ten: &[u64]) -> u8
     ensures { λ r. ⌜ leaving r (now (sponge .exit)) ≡ stepBack kind (now (sponge .entry)) (now (ten .entry)) ⌝ }
 {
     let before = *sponge;

@@ -17,7 +17,7 @@ pub use sound.WpLaws.{FmC}
 pub use contract.Lifetimes.{Lfts}
 pub use contract.Monad.{fact}
 pub use contract.Running.{Running, GhostRules, givenOf, tables}
-pub use types.Kit.{Given, ‵, raw, _⊛_, _$_, _∵_, !, qed, by, move, keep, drop, use1, split3, join, fsplit, fsplit3, fjoin}
+pub use types.Kit.{Given, ‵, raw, _⊛_, _$_, _∵_, !, qed, by, move, keep, drop, use1, split, split3, join, fsplit, fsplit3, fjoin}
 pub use types.Part.{agg}
 pub use types.Run.{look, init, of-opd, and-then, no-more, returns, enter, alloc1, alloc0, params1, pass1, pass0, free0}
 pub use denote.Builtin.{u8, u64, usize, SliceRefOf}
@@ -28,7 +28,7 @@ pub use denote.RattleType.{flat, owns}
 pub use denote.Ref.{NamedLft, RefT, MutRef, now}
 pub use denote.Signature.{Slot, namedLft, plain, typesAt}
 pub use denote.Slice.{sliceVal, ShrSlice, slice-vals, shr-slice-tells, shr-slice-lawful}
-pub use denote.Steps.{owned}
+pub use denote.Steps.{nothing, owned}
 pub use denote.Triple.Bound.{Bound}
 pub use denote.Triple.Clauses.{Clauses, Ended, atExit, closing}
 pub use denote.Triple.Entry.{Args, Vals, alive, onEntry}
