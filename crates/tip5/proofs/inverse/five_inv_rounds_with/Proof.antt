@@ -13,16 +13,16 @@ inv-round-with-requires : tie.Need-inv-round-with-requires
 inv-round-with-requires c κs = search needs
 
 inv-round-with-requires-2 : tie.Need-inv-round-with-requires-2
-inv-round-with-requires-2 c κs = (c .before .pre .0, (lit< tt, subst⁻¹ Below (c .inv-round-with .ensures) (invRound-below 4 _)))
+inv-round-with-requires-2 c κs = (c .before .pre .0, (lit< tt, subst⁻¹ Below (c .inv-round-with .ensures) (invRound-below _ _)))
 
 inv-round-with-requires-3 : tie.Need-inv-round-with-requires-3
-inv-round-with-requires-3 c κs = (c .before .before .pre .0, (lit< tt, subst⁻¹ Below (c .inv-round-with2 .ensures) (invRound-below 3 _)))
+inv-round-with-requires-3 c κs = (c .before .before .pre .0, (lit< tt, subst⁻¹ Below (c .inv-round-with2 .ensures) (invRound-below _ _)))
 
 inv-round-with-requires-4 : tie.Need-inv-round-with-requires-4
-inv-round-with-requires-4 c κs = (c .before .before .before .pre .0, (lit< tt, subst⁻¹ Below (c .inv-round-with3 .ensures) (invRound-below 2 _)))
+inv-round-with-requires-4 c κs = (c .before .before .before .pre .0, (lit< tt, subst⁻¹ Below (c .inv-round-with3 .ensures) (invRound-below _ _)))
 
 inv-round-with-requires-5 : tie.Need-inv-round-with-requires-5
-inv-round-with-requires-5 c κs = (c .before .before .before .before .pre .0, (lit< tt, subst⁻¹ Below (c .inv-round-with4 .ensures) (invRound-below 1 _)))
+inv-round-with-requires-5 c κs = (c .before .before .before .before .pre .0, (lit< tt, subst⁻¹ Below (c .inv-round-with4 .ensures) (invRound-below _ _)))
 
 returns : tie.Need-returns
 unfolding invPermuted unrounds
