@@ -1,0 +1,10 @@
+-- The laws of this crate's definitions.
+pub mod AllowanceLaws
+pub mod AnswerLaws
+pub mod BoundLaws
+pub mod DrawLaws
+pub mod DrawingLaws
+pub mod ExtendedLaws
+pub mod IndexLaws
+pub mod SqueezeLaws
+pub mod WalkBack

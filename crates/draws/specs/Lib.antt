@@ -1,0 +1,5 @@
+-- What the calls of this crate answer.
+pub mod Answers
+pub mod Bound
+pub mod Draw
+pub mod Extended

@@ -1,0 +1,100 @@
+// Draws: as many indices as a lent slice holds, out of a sponge's squeezed tens.
+mod bound;
+mod index;
+
+use bound::judge_bound;
+use index::put_indices;
+use sponge::Tip5;
+use sponge::by_value::squeeze;
+use tip5::judge::judge_words;
+use tip5::refusal;
+ghost use mathlib.Core.List.{[], _∷_};
+ghost use mathlib.Core.Path.{_≡_};
+ghost use Prim.Native.Nat.{_<_};
+ghost use lib.ListN.{length, replicate};
+ghost use Rattle.draws.specs.Answers.{
+  drawAnswer,
+  drawRefusal,
+  inFront,
+  sampleIndices,
+  sampledSlice,
+};
+ghost use Rattle.draws.specs.Draw.{draw};
+ghost use Rattle.sponge.specs.History.Step.{squeeze};
+ghost use Rattle.sponge.specs.WalkBack.{Accepted};
+
+const BAD_BOUND: u8 = 3;
+
+const ALLOWANCE_SPENT: u8 = 6;
+
+// A refusal or 0, how many indices were found, how many squeezes were made, and the next sponge. Refused 1 or 3 it holds
+// zeros and the sponge that went in; refused 6 it holds both counts and the sponge after the whole allowance.
+pub struct DrawAnswer {
+    pub refusal: u8,
+    pub found: usize,
+    pub squeezes: u64,
+    pub sponge: Tip5,
+}
+
+// The refusals with which nothing is drawn: a bad word, then a bad bound.
+fn judge_draw(sponge: Tip5, bound: u32) -> u8
+    ensures { λ r. ⌜ r ≡ drawRefusal sponge bound ⌝ }
+{
+    let state = sponge.state;
+    let refusal = judge_words(&state);
+    if refusal != refusal::NONE {
+        return refusal;
+    }
+    judge_bound(bound)
+}
+
+// Squeezes while indices are missing and the allowance is not spent.
+fn draw(sponge: Tip5, bound: u32, indices: &mut [u32], allowance: u64) -> DrawAnswer
+    requires { ⌜ 0 < bound ⌝ }
+    requires { ⌜ Accepted (replicate allowance squeeze) sponge ⌝ }
+    ensures { λ r. ⌜ (r ≡ drawAnswer 0 (length (now (indices .entry))) (draw bound allowance (length (now (indices .entry))) sponge))
+        × (now (indices .exit) ≡ inFront (draw bound allowance (length (now (indices .entry))) sponge .indices) (now (indices .entry))) ⌝ }
+{
+    let mut s = sponge;
+    let mut found = 0;
+    let mut squeezes = 0;
+    while found < indices.len() {
+        if squeezes == allowance {
+            return DrawAnswer {
+                refusal: ALLOWANCE_SPENT,
+                found,
+                squeezes,
+                sponge: s,
+            };
+        }
+        let answer = squeeze(s);
+        let ten = answer.ten;
+        let next = answer.sponge;
+        found = put_indices(&ten, bound, indices, found);
+        s = next;
+        squeezes += 1;
+    }
+    DrawAnswer {
+        refusal: refusal::NONE,
+        found,
+        squeezes,
+        sponge: s,
+    }
+}
+
+// Indices below a bound, a power of two, until the slice is full or the allowance of squeezes is spent.
+pub fn sample_indices(sponge: Tip5, bound: u32, indices: &mut [u32], allowance: u64) -> DrawAnswer
+    ensures { λ r. ⌜ (r ≡ sampleIndices sponge bound allowance (length (now (indices .entry))))
+        × (now (indices .exit) ≡ sampledSlice sponge bound allowance (now (indices .entry))) ⌝ }
+{
+    let refusal = judge_draw(sponge, bound);
+    if refusal != refusal::NONE {
+        return DrawAnswer {
+            refusal,
+            found: 0,
+            squeezes: 0,
+            sponge,
+        };
+    }
+    draw(sponge, bound, indices, allowance)
+}
