@@ -3,7 +3,7 @@
 -- Assumes nothing.
 use Rattle.walks.proofs.Names.{_≡_, refl, ℕ, List, [], _∷_, length, URA, named, w8, w64, Val, vptr, id⊢, Lft, Share, ftrue, flft, Heap, Calls, Loops, Atoms, FmC, Given, ‵, raw, _⊛_, _$_, _∵_, !, qed, by, move, keep, drop, use1, split3, join, fsplit, fsplit3, fjoin}
 use Rattle.walks.proofs.Names.{look, init, of-opd, and-then, no-more, returns, enter, alloc1, alloc0, params1, pass1, pass0, free0, u8, u64, Is, owned, uint-makes, RefT, now, MutRef, owns, sliceVal, ShrSlice, shr-slice-lawful, plain, SliceRefOf}
-use Rattle.walks.proofs.Names.{Model, Routines, Running, GhostRules, givenOf, tables, Closed, Lfts, Args, fact, ent, Clauses, atExit, closing, tripleOf, slice-vals, shr-slice-tells, Lends, left-behind}
+use Rattle.walks.proofs.Names.{Model, Routines, Running, GhostRules, givenOf, tables, Closed, Lfts, Args, fact, ent, Clauses, AtExit, closing, tripleOf, slice-vals, shr-slice-tells, Lends, left-behind}
 use Rattle.walks.proofs.Names.{Bound, onEntry, Triple, Answer, Ended, Stated, Slot, yes, WalkLeaving, asks, copies-out, field-of, frees-at, lands-spelt, lets, local, puts-back}
 use mir.Syntax.{Name, Fn, local as declares, valueLocal, tyInt, tyRef, imm, mut, place, deref, field, copy, rvOpd, seq, assign, call, return}
 use denote.Memory.{pointee}
@@ -89,9 +89,9 @@ module _ {M : Type 1} (𝓤 : URA M) (H : Heap 𝓤) (A : Atoms 𝓤) (W : Given
 -- the theorem of such a function, whose code is `lent g`: its contract says that what it returns and leaves is what g answers
 pub lent-meets : {M : Type 1} (𝓤 : URA M) (H : Heap 𝓤) (𝓜 : Model 𝓤 H) (𝓖 : GhostRules 𝓤 H) (𝓡 : Running 𝓤 H 𝓜) (γ : Routines) (k g : Name) → Closed 𝓤 H (tables 𝓤 H 𝓜 𝓡 γ .C) (tables 𝓤 H 𝓜 𝓡 γ .Λ) k (lent g)
     → (f : Tip5 → List ℕ → SpongeAnswer) → Triple 𝓤 (tables 𝓤 H 𝓜 𝓡 γ .C g) (Stated 𝓤 ByValue (by-value f) H (𝓖 .A)) → (c : Clauses 𝓤 InPlace)
-    → ((κs : Lfts 2) (a : Args (InPlace .signature) κs) (gh : c κs a .ghost) (r : ℕ) (h′ : Tip5) → ent 𝓤 (fact 𝓤 (leaving r h′ ≡ f (now (a .0)) (now (a .1 .0)))) (c κs a .ensures gh r (atExit InPlace κs a (h′, (tt, tt)))))
+    → ((κs : Lfts 2) (a : Args (InPlace .signature) κs) (gh : c κs a .ghost) (r : ℕ) (e : AtExit InPlace κs) → ent 𝓤 (fact 𝓤 (leaving r (now (e .0)) ≡ f (now (a .0)) (now (a .1 .0)))) (c κs a .ensures gh r e))
     → Triple 𝓤 (𝓡 .run (γ k)) (tripleOf 𝓤 H (𝓖 .A) (InPlace .signature) (closing 𝓤 H (𝓖 .A) InPlace c))
 lent-meets 𝓤 H 𝓜 𝓖 𝓡 γ k g is-lent f known c told =
     left-behind 𝓤 H 𝓜 𝓖 𝓡 γ k (lent g) is-lent 2 [] tt S.the-type others (yes, tt) (plain (λ _. u8)) (λ κs. (slice-vals, tt)) (λ κs. (shr-slice-tells (named 1) (κs .1 .0) u64, tt))
-    ((λ κs x w. refl), tt) (λ κs a. (tt, tt)) c (λ κs a r h′. leaving r h′ ≡ f (now (a .0)) (now (a .1 .0))) told (λ fm κs qs a are.
+    c ((λ κs x. (tt, refl)), tt) (λ κs a r h′. leaving r h′ ≡ f (now (a .0)) (now (a .1 .0))) told (λ fm κs qs a are.
     walk 𝓤 H (𝓖 .A) (givenOf 𝓤 H 𝓜 𝓖) (tables 𝓤 H 𝓜 𝓡 γ .C) (tables 𝓤 H 𝓜 𝓡 γ .Λ) fm g f known (κs .0) (κs .1 .0) (qs .0) (qs .1 .0) (a .0) (a .1 .0) (are .0))

@@ -30,12 +30,12 @@ pub use denote.Signature.{Slot, namedLft, plain, typesAt}
 pub use denote.Slice.{sliceVal, ShrSlice, slice-vals, shr-slice-tells, shr-slice-lawful}
 pub use denote.Steps.{nothing, owned}
 pub use denote.Triple.Bound.{Bound}
-pub use denote.Triple.Clauses.{Clauses, Ended, atExit, closing}
+pub use denote.Triple.Clauses.{AtExit, Clauses, Ended, closing}
 pub use denote.Triple.Entry.{Args, Vals, alive, onEntry}
 pub use denote.Triple.Spec.{tripleOf}
 pub use denote.Triple.Statement.{Triple}
 pub use denote.Triple.Table.{cited}
-pub use Rattle.walks.proofs.Closing.{WalkTo, answered}
+pub use Rattle.walks.proofs.Closing.{WalkAnswering, WalkTo, answered, closed}
 pub use Rattle.walks.proofs.Lent.{Lends, WalkLeaving, copies-out, left-behind, puts-back}
-pub use Rattle.walks.proofs.Stating.{Answer, Stated}
-pub use Rattle.walks.proofs.Walk.{asks, field-of, frees-at, lands-in, lands-spelt, lets, local}
+pub use Rattle.walks.proofs.Stating.{Answer, Promise, Promised, Stated}
+pub use Rattle.walks.proofs.Walk.{asks, calls, field-of, frees-at, lands-in, lands-spelt, lets, local}

@@ -65,6 +65,6 @@ pub squeeze-spec : {M : Type 1} → statement M
 unfolding code.routine
 squeeze-spec 𝓤 H 𝓜 𝓖 𝓡 =
     left-behind 𝓤 H 𝓜 𝓖 𝓡 code.env name code.function (code.unfolded 𝓤 H 𝓜 𝓡) 1 [] tt S.the-type [] tt (plain (λ _. R.the-row)) (λ κs. tt) (λ κs. tt)
-    tt (λ κs a. tt) (clauses 𝓤 H (𝓖 .A) (𝓜 .mem) (𝓡 .run)) (λ κs a r h′. leavingTen r h′ ≡ squeeze (now (a .0))) (λ κs a g r h′. id⊢ 𝓤 _) (λ fm κs qs a are.
+    (clauses 𝓤 H (𝓖 .A) (𝓜 .mem) (𝓡 .run)) tt (λ κs a r h′. leavingTen r h′ ≡ squeeze (now (a .0))) (λ κs a g r e. id⊢ 𝓤 _) (λ fm κs qs a are.
     walk 𝓤 H (𝓖 .A) (givenOf 𝓤 H 𝓜 𝓖) (tables 𝓤 H 𝓜 𝓡 code.env .C) (tables 𝓤 H 𝓜 𝓡 code.env .Λ) fm
     (cited 𝓤 H (Stated 𝓤 callee.ended answers H (𝓖 .A)) 𝓜 𝓡 code.env callee-def.name callee-def.routine code.calls-sponge·by-value·squeeze (callee-thm.met 𝓤 H 𝓜 𝓖 𝓡)) (κs .0) (qs .0) (a .0))

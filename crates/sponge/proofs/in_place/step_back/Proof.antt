@@ -76,8 +76,8 @@ pub step-back-spec : {M : Type 1} → statement M
 unfolding code.routine
 step-back-spec 𝓤 H 𝓜 𝓖 𝓡 =
     left-behind 𝓤 H 𝓜 𝓖 𝓡 code.env name code.function (code.unfolded 𝓤 H 𝓜 𝓡) 2 [] tt S.the-type others (yes, (yes, tt)) (plain (λ _. u8))
-    (λ κs. (EL.vals T.the-type T′.the-laws, (slice-vals, tt))) (λ κs. (EL.tells T.the-type T′.the-laws, (shr-slice-tells (named 1) (κs .1 .0) u64, tt))) ((λ κs x w. refl), ((λ κs x w. refl), tt)) (λ κs a. (tt, (tt, tt)))
-    (clauses 𝓤 H (𝓖 .A) (𝓜 .mem) (𝓡 .run)) (λ κs a r h′. leaving r h′ ≡ stepBack (a .1 .0) (now (a .0)) (now (a .1 .1 .0))) (λ κs a g r h′. id⊢ 𝓤 _) (λ fm κs qs a are.
+    (λ κs. (EL.vals T.the-type T′.the-laws, (slice-vals, tt))) (λ κs. (EL.tells T.the-type T′.the-laws, (shr-slice-tells (named 1) (κs .1 .0) u64, tt)))
+    (clauses 𝓤 H (𝓖 .A) (𝓜 .mem) (𝓡 .run)) ((λ κs x. (tt, refl)), ((λ κs x. (tt, refl)), tt)) (λ κs a r h′. leaving r h′ ≡ stepBack (a .1 .0) (now (a .0)) (now (a .1 .1 .0))) (λ κs a g r e. id⊢ 𝓤 _) (λ fm κs qs a are.
     walk 𝓤 H (𝓖 .A) (givenOf 𝓤 H 𝓜 𝓖) (tables 𝓤 H 𝓜 𝓡 code.env .C) (tables 𝓤 H 𝓜 𝓡 code.env .Λ) fm
     (cited 𝓤 H (Stated 𝓤 callee.ended answers H (𝓖 .A)) 𝓜 𝓡 code.env callee-def.name callee-def.routine code.calls-sponge·step-back·step-back (callee-thm.met 𝓤 H 𝓜 𝓖 𝓡))
     (κs .0) (κs .1 .0) (qs .0) (qs .1 .0) (a .0) (a .1 .0) (a .1 .1 .0) (are .0) (are .1 .0))
