@@ -3,3 +3,4 @@ pub mod Answers
 pub mod Bound
 pub mod Draw
 pub mod Extended
+pub mod InPlace
