@@ -4,24 +4,25 @@ use mathlib.Core.List.{List, [], _∷_}
 use mathlib.Core.Path.{_≡_, refl}
 use Prim.Native.Nat.{ℕ}
 use lib.ListN.{length}
+use Rattle.sponge.specs.declared.step_back.StepKind.the-variants.{Squeeze}
 use Rattle.sponge.specs.declared.Tip5.{Tip5}
-use Rattle.sponge.specs.Answers.{hash10Refusal, hashPairRefusal, inputRefusal, placesRefusal, tenRefusal}
+use Rattle.sponge.specs.Answers.{absorbRefusal, hash10Refusal, hashPairRefusal, padRefusal, stepBackRefusal}
 use Rattle.tip5.specs.Judge.{lengthRefusal, wordRefusal}
 use Rattle.tip5.proofs.JudgeLaws.{Below, accepted-below, below-accepted}
 use Rattle.sponge.proofs.RefusalLaws.{accepted-length, first-none, length-accepted, none-first}
 
-pub accepted-input : (s : Tip5) (input : List ℕ) → inputRefusal s input ≡ 0 → Below (s .state) × Below input
-accepted-input s input e =
+pub accepted-pad : (s : Tip5) (input : List ℕ) → padRefusal s input ≡ 0 → Below (s .state) × Below input
+accepted-pad s input e =
     let both = none-first (wordRefusal (s .state)) (wordRefusal input ∷ []) e in
     (accepted-below (s .state) (both .0), accepted-below input (none-first (wordRefusal input) [] (both .1) .0))
 
-pub accepted-ten : (s : Tip5) (ten : List ℕ) → tenRefusal s ten ≡ 0 → (length ten ≡ 10) × Below (s .state) × Below ten
-accepted-ten s ten e =
+pub accepted-absorb : (s : Tip5) (ten : List ℕ) → absorbRefusal s ten ≡ 0 → (length ten ≡ 10) × Below (s .state) × Below ten
+accepted-absorb s ten e =
     let long = none-first (lengthRefusal 10 ten) (wordRefusal (s .state) ∷ wordRefusal ten ∷ []) e in
-    let both = accepted-input s ten (long .1) in
+    let both = accepted-pad s ten (long .1) in
     (accepted-length 10 ten (long .0), both .0, both .1)
 
-pub accepted-places : (s : Tip5) (places : List ℕ) → placesRefusal s places ≡ 0 → (length places ≡ 10) × Below (s .state)
+pub accepted-places : (s : Tip5) (places : List ℕ) → stepBackRefusal Squeeze s places ≡ 0 → (length places ≡ 10) × Below (s .state)
 accepted-places s places e =
     let long = none-first (lengthRefusal 10 places) (wordRefusal (s .state) ∷ []) e in
     (accepted-length 10 places (long .0), accepted-below (s .state) (none-first (wordRefusal (s .state)) [] (long .1) .0))
@@ -43,11 +44,11 @@ accepted-hashPair left right e =
 
 -- and the other way round
 
-pub ten-accepted : (s : Tip5) (ten : List ℕ) → length ten ≡ 10 → Below (s .state) → Below ten → tenRefusal s ten ≡ 0
-ten-accepted s ten e hs ht =
+pub absorb-accepted : (s : Tip5) (ten : List ℕ) → length ten ≡ 10 → Below (s .state) → Below ten → absorbRefusal s ten ≡ 0
+absorb-accepted s ten e hs ht =
     first-none (wordRefusal (s .state) ∷ wordRefusal ten ∷ []) (length-accepted ten e)
     (first-none (wordRefusal ten ∷ []) (below-accepted (s .state) hs) (first-none [] (below-accepted ten ht) refl))
 
-pub places-accepted : (s : Tip5) (places : List ℕ) → length places ≡ 10 → Below (s .state) → placesRefusal s places ≡ 0
+pub places-accepted : (s : Tip5) (places : List ℕ) → length places ≡ 10 → Below (s .state) → stepBackRefusal Squeeze s places ≡ 0
 places-accepted s places e hs =
     first-none (wordRefusal (s .state) ∷ []) (length-accepted places e) (first-none [] (below-accepted (s .state) hs) refl)

@@ -4,7 +4,7 @@ use mathlib.Core.List.{List, [], _∷_, _++_}
 use mathlib.Core.Path.{subst⁻¹}
 use Prim.Native.Nat.{ℕ, zero, suc, _<_}
 use lib.Dec.{lit<}
-use lib.ListN.{drop, getD, replicate, take}
+use lib.ListN.{drop, replicate, take}
 use lib.Seq.{getD-drop}
 use Rattle.numbers.specs.Modulus.{P}
 use Rattle.tip5.proofs.JudgeLaws.{Below}

@@ -4,16 +4,22 @@ use mathlib.Core.List.{List, _++_}
 use mathlib.Core.Path.{_≡_}
 use Prim.Native.Nat.{ℕ}
 use native.Mathlib.Omega.{arith}
-use lib.ListN.{length, length-take}
+use lib.ListN.{getD, length, length-take}
 use Rattle.sponge.specs.declared.Domain.the-variants.{VariableLength, FixedLength}
 use Rattle.sponge.specs.declared.Tip5.{Tip5}
 use Rattle.sponge.specs.Digest.{digest, digestOf, digestOfPair, digestOfTen}
 use Rattle.sponge.specs.History.{paddedSteps}
 use Rattle.sponge.specs.Sponge.{start}
+use Rattle.numbers.specs.Lists.{tab}
 use Rattle.tip5.proofs.JudgeLaws.{Below}
 use Rattle.sponge.proofs.BelowLaws.{take-below}
 use Rattle.sponge.proofs.HistoryLaws.{run-below, run-length}
+use Rattle.sponge.proofs.ListLaws.{tab-take}
 use Rattle.sponge.proofs.SpongeLaws.{absorbed-below, absorbed-length, start-below, start-length}
+
+pub digest-words : (s : Tip5) → length (s .state) ≡ 16 → tab 5 0 (λ k. getD (s .state) k 0) ≡ digest s
+unfolding digest
+digest-words s e = tab-take 5 (s .state) (omega arith)
 
 pub digest-length : (s : Tip5) → length (s .state) ≡ 16 → length (digest s) ≡ 5
 unfolding digest

@@ -6,14 +6,14 @@ use mathlib.Core.Path.{_≡_, refl, ap, _∙_}
 use Prim.Native.Nat.{ℕ, _+_, _/_, _≤_, _<_}
 use lib.ListN.{drop, length, take, length-map}
 use Rattle.sponge.specs.declared.Tip5.{Tip5}
-use Rattle.sponge.specs.Answers.{inputRefusal}
+use Rattle.sponge.specs.Answers.{padRefusal}
 use Rattle.sponge.specs.History.{Step, after, paddedSteps, run}
 use Rattle.sponge.specs.History.Step.{squeeze, absorb}
 use Rattle.sponge.specs.Padding.{lastTen, padded}
 use Rattle.sponge.specs.Sponge.{absorbed}
 use Rattle.sponge.specs.WalkBack.{Accepted}
 use Rattle.tip5.proofs.JudgeLaws.{Below}
-use Rattle.sponge.proofs.AcceptedLaws.{ten-accepted, accepted-input}
+use Rattle.sponge.proofs.AcceptedLaws.{absorb-accepted, accepted-pad}
 use Rattle.sponge.proofs.PaddingLaws.{Tens, padded-last, padded-length, padded-more, padded-tens}
 use Rattle.sponge.proofs.SpongeLaws.{absorbed-below, absorbed-length, squeezed-below, squeezed-length}
 
@@ -60,12 +60,12 @@ paddedSteps-length input = length-map (padded input) absorb ∙ padded-length in
 absorbs-accepted : (tens : List (List ℕ)) (s : Tip5) → Tens tens → Below (s .state) → Accepted (map absorb tens) s
 absorbs-accepted [] s h hs = tt
 absorbs-accepted (ten ∷ more) s h hs =
-    (ten-accepted s ten (h .0) hs (h .1), absorbs-accepted more (after (absorb ten) s) (h .2) (after-below (absorb ten) s))
+    (absorb-accepted s ten (h .0) hs (h .1), absorbs-accepted more (after (absorb ten) s) (h .2) (after-below (absorb ten) s))
 
-pub padded-accepted : (s : Tip5) (input : List ℕ) → inputRefusal s input ≡ 0 → Accepted (paddedSteps input) s
+pub padded-accepted : (s : Tip5) (input : List ℕ) → padRefusal s input ≡ 0 → Accepted (paddedSteps input) s
 unfolding paddedSteps
 padded-accepted s input e =
-    let words = accepted-input s input e in
+    let words = accepted-pad s input e in
     absorbs-accepted (padded input) s (padded-tens input (words .1)) (words .0)
 
 -- ten words and more are an absorb and then the rest

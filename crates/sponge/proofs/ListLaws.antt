@@ -1,13 +1,13 @@
 -- Lists that code copies word by word: the first words of a list, and words pasted at the front, one list after another, and before
 -- ONE and zeros.
 -- Assumes nothing.
-use mathlib.Core.List.{List, [], _∷_, _++_, append-nil}
+use mathlib.Core.List.{List, _∷_, _++_, append-nil}
 use mathlib.Core.Path.{_≡_, refl, ap, ap₂, _∙_}
-use Prim.Native.Nat.{ℕ, zero, suc, _+_, _-_, _≤_, _<_}
+use Prim.Native.Nat.{ℕ, zero, suc, _+_, _-_, _≤_}
 use native.Mathlib.Nat.{suc-sub-suc, zero-add, zero-sub, sub-zero}
 use native.Mathlib.Omega.{arith}
-use lib.ListN.{drop, getD, length, replicate, set, take, drop-of-length-le, length-append, length-drop, length-replicate}
-use lib.Seq.{drop-at, drop-nil, getD-take, length-take-le, paste, set-at, take-all, take-at, take-length}
+use lib.ListN.{drop, getD, length, replicate, set, take, drop-of-length-le, length-append, length-drop}
+use lib.Seq.{getD-take, length-take-le, paste, set-at, take-all, take-at, take-length}
 use Rattle.numbers.specs.Lists.{tab}
 use Rattle.numbers.proofs.Lists.{tab-unique}
 

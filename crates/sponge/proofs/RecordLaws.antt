@@ -2,7 +2,6 @@
 -- Assumes nothing.
 use mathlib.Core.List.{List}
 use mathlib.Core.Path.{_≡_, sym, _∙_}
-use Prim.Native.Nat.{ℕ}
 use lib.ListN.{length, length-map}
 use mir.Val.{Val}
 use denote.Laws.{Is}

@@ -1,8 +1,8 @@
--- The first of several refusals: there is none where each is none, and none where there is no first. What an accepted absorb, squeeze
--- or step back says of its words.
+-- The first of several refusals: it is none where each is none, and the other way round; an early answer is the first. The refusal of
+-- a length.
 -- Assumes nothing.
 use mathlib.Core.Bool.{Bool, true, false, cond}
-use mathlib.Core.List.{List, [], _∷_}
+use mathlib.Core.List.{List, _∷_}
 use mathlib.Core.Path.{_≡_, refl, ap, sym, _∙_}
 use Prim.Native.Nat.{ℕ, zero, suc}
 use native.Mathlib.Omega.{arith}

@@ -2,18 +2,20 @@
 -- Assumes nothing.
 use mathlib.Core.List.{List, _++_}
 use mathlib.Core.Path.{_≡_, refl, ap, _∙_}
-use Prim.Native.Nat.{ℕ, _+_}
+use Prim.Native.Nat.{ℕ}
 use native.Mathlib.Omega.{arith}
-use lib.ListN.{drop, length, replicate, take, length-append, length-drop, length-take, take-append-drop}
+use lib.ListN.{drop, getD, length, replicate, take, length-append, length-drop, length-take, take-append-drop}
 use lib.Seq.{drop-at}
 use Rattle.sponge.specs.declared.Domain.{Domain}
 use Rattle.sponge.specs.declared.Domain.the-variants.{VariableLength, FixedLength}
 use Rattle.sponge.specs.declared.Tip5.{Tip5}
 use Rattle.sponge.specs.Sponge.{absorbed, one, overwrite, permute, rate, squeezed, start, unabsorbed, unpermute, unsqueezed}
+use Rattle.numbers.specs.Lists.{tab}
 use Rattle.tip5.proofs.JudgeLaws.{Below, allBelow-below}
 use Rattle.tip5.proofs.RoundLaws.{permuted-below, permuted-length}
 use Rattle.tip5.proofs.RoundTrip.{invPermuted-permuted}
 use Rattle.sponge.proofs.BelowLaws.{append-below, drop-below, take-below}
+use Rattle.sponge.proofs.ListLaws.{tab-take}
 
 -- The starts
 
@@ -28,6 +30,10 @@ start-below VariableLength = allBelow-below (replicate 16 0) tt
 start-below FixedLength = allBelow-below (replicate 10 0 ++ replicate 6 one) tt
 
 -- Words 0 to 9
+
+pub rate-words : (s : Tip5) → length (s .state) ≡ 16 → tab 10 0 (λ k. getD (s .state) k 0) ≡ rate s
+unfolding rate
+rate-words s e = tab-take 10 (s .state) (omega arith)
 
 pub rate-length : (s : Tip5) → length (s .state) ≡ 16 → length (rate s) ≡ 10
 unfolding rate

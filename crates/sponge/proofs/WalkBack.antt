@@ -9,14 +9,14 @@ use Rattle.sponge.specs.declared.by_value.SpongeAnswer.{SpongeAnswer}
 use Rattle.sponge.specs.declared.step_back.StepKind.{StepKind}
 use Rattle.sponge.specs.declared.step_back.StepKind.the-variants.{Squeeze, Absorb}
 use Rattle.sponge.specs.declared.Tip5.{Tip5}
-use Rattle.sponge.specs.Answers.{granted, inputRefusal, nextSponge, padAndAbsorbAll, spongeRefusal, stepBack, tenRefusal}
+use Rattle.sponge.specs.Answers.{granted, padRefusal, nextSponge, padAndAbsorbAll, squeezeRefusal, stepBack, absorbRefusal}
 use Rattle.sponge.specs.History.{Step, after, paddedSteps, run}
 use Rattle.sponge.specs.History.Step.{squeeze, absorb}
 use Rattle.sponge.specs.Sponge.{absorbed, rate, squeezed}
 use Rattle.sponge.specs.WalkBack.{Accepted, AllKept, Keeps, Kept, stepRefusal, walk}
 use Rattle.tip5.specs.Judge.{unless}
 use Rattle.tip5.proofs.JudgeLaws.{accepted-below}
-use Rattle.sponge.proofs.AcceptedLaws.{accepted-ten, places-accepted, ten-accepted}
+use Rattle.sponge.proofs.AcceptedLaws.{accepted-absorb, places-accepted, absorb-accepted}
 use Rattle.sponge.proofs.HistoryLaws.{after-length, padded-accepted}
 use Rattle.sponge.proofs.SpongeLaws.{absorbed-below, rate-below, rate-length, squeezed-below, unabsorbed-absorbed, unsqueezed-squeezed}
 
@@ -26,19 +26,19 @@ next-granted {next = next} room none same = ap (λ (n : ℕ). nextSponge n next 
 
 -- One step
 
-pub back-squeeze : (s : Tip5) (places : List ℕ) → length (s .state) ≡ 16 → spongeRefusal s ≡ 0 → length places ≡ 10
+pub back-squeeze : (s : Tip5) (places : List ℕ) → length (s .state) ≡ 16 → squeezeRefusal s ≡ 0 → length places ≡ 10
     → stepBack Squeeze (squeezed s) places ≡ granted s
 back-squeeze s places e accepted ten =
     next-granted (squeezed s)
     (places-accepted (squeezed s) places ten (squeezed-below s))
     (unsqueezed-squeezed s e (accepted-below (s .state) accepted))
 
-pub back-absorb : (s : Tip5) (ten : List ℕ) → length (s .state) ≡ 16 → tenRefusal s ten ≡ 0
+pub back-absorb : (s : Tip5) (ten : List ℕ) → length (s .state) ≡ 16 → absorbRefusal s ten ≡ 0
     → stepBack Absorb (absorbed ten s) (rate s) ≡ granted s
 back-absorb s ten e accepted =
-    let words = accepted-ten s ten accepted in
+    let words = accepted-absorb s ten accepted in
     next-granted (absorbed ten s)
-    (ten-accepted (absorbed ten s) (rate s) (rate-length s e) (absorbed-below ten s) (rate-below s (words .1)))
+    (absorb-accepted (absorbed ten s) (rate s) (rate-length s e) (absorbed-below ten s) (rate-below s (words .1)))
     (unabsorbed-absorbed ten s (words .0) (words .2) e (words .1))
 
 pub back-step : (t : Step) (s : Tip5) (k : Kept) → length (s .state) ≡ 16 → stepRefusal t s ≡ 0 → Keeps t s k
@@ -87,7 +87,7 @@ pub walk-none : (s : Tip5) → walk [] s ≡ granted s
 walk-none s = refl
 
 -- a padded absorb, each ten of which is a step
-pub walk-back-padded : (s : Tip5) (input : List ℕ) (ks : List Kept) → length (s .state) ≡ 16 → inputRefusal s input ≡ 0 → AllKept (paddedSteps input) s ks
+pub walk-back-padded : (s : Tip5) (input : List ℕ) (ks : List Kept) → length (s .state) ≡ 16 → padRefusal s input ≡ 0 → AllKept (paddedSteps input) s ks
     → walk (reverse ks) (padAndAbsorbAll s input .sponge) ≡ granted s
 walk-back-padded s input ks e accepted kept =
     ap (λ (a : SpongeAnswer). walk (reverse ks) (a .sponge)) (next-granted s accepted refl)

@@ -16,21 +16,17 @@ use Rattle.tip5.specs.Judge.{first, lengthRefusal, unless, wordRefusal}
 
 -- What is refused: each list has the refusals in their order
 
--- a sponge
-abbrev pub spongeRefusal : Tip5 → ℕ
-spongeRefusal s = wordRefusal (s .state)
+-- a sponge that is squeezed
+abbrev pub squeezeRefusal : Tip5 → ℕ
+squeezeRefusal s = wordRefusal (s .state)
 
 -- a sponge and an input of any length
-abbrev pub inputRefusal : Tip5 → (input : List ℕ) → ℕ
-inputRefusal s input = first (wordRefusal (s .state) ∷ wordRefusal input ∷ [])
+abbrev pub padRefusal : Tip5 → (input : List ℕ) → ℕ
+padRefusal s input = first (wordRefusal (s .state) ∷ wordRefusal input ∷ [])
 
 -- a sponge and ten words
-abbrev pub tenRefusal : Tip5 → (ten : List ℕ) → ℕ
-tenRefusal s ten = first (lengthRefusal 10 ten ∷ wordRefusal (s .state) ∷ wordRefusal ten ∷ [])
-
--- a sponge and ten places, whose words are not judged
-abbrev pub placesRefusal : Tip5 → (places : List ℕ) → ℕ
-placesRefusal s places = first (lengthRefusal 10 places ∷ wordRefusal (s .state) ∷ [])
+abbrev pub absorbRefusal : Tip5 → (ten : List ℕ) → ℕ
+absorbRefusal s ten = first (lengthRefusal 10 ten ∷ wordRefusal (s .state) ∷ wordRefusal ten ∷ [])
 
 -- ten words to hash
 abbrev pub hash10Refusal : (ten : List ℕ) → ℕ
@@ -51,13 +47,13 @@ abbrev pub granted : Tip5 → SpongeAnswer
 granted s = nextSponge 0 s s
 
 abbrev pub absorb : Tip5 → (ten : List ℕ) → SpongeAnswer
-absorb s ten = nextSponge (tenRefusal s ten) (absorbed ten s) s
+absorb s ten = nextSponge (absorbRefusal s ten) (absorbed ten s) s
 
 abbrev pub squeeze : Tip5 → SqueezeAnswer
-squeeze s = record { refusal = spongeRefusal s; sponge = unless (spongeRefusal s) (squeezed s) s; ten = unless (spongeRefusal s) (rate s) (replicate 10 0) }
+squeeze s = record { refusal = squeezeRefusal s; sponge = unless (squeezeRefusal s) (squeezed s) s; ten = unless (squeezeRefusal s) (rate s) (replicate 10 0) }
 
 abbrev pub padAndAbsorbAll : Tip5 → (input : List ℕ) → SpongeAnswer
-padAndAbsorbAll s input = nextSponge (inputRefusal s input) (run (paddedSteps input) s) s
+padAndAbsorbAll s input = nextSponge (padRefusal s input) (run (paddedSteps input) s) s
 
 -- Digests
 
@@ -76,9 +72,10 @@ hashVarlen input = newDigest (wordRefusal input) (digestOf input)
 
 -- One step back
 
+-- beside an absorb the saved words are judged, beside a squeeze the ten places are not
 abbrev pub stepBackRefusal : StepKind → Tip5 → (ten : List ℕ) → ℕ
-stepBackRefusal Squeeze s ten = placesRefusal s ten
-stepBackRefusal Absorb s ten = tenRefusal s ten
+stepBackRefusal Squeeze s ten = first (lengthRefusal 10 ten ∷ wordRefusal (s .state) ∷ [])
+stepBackRefusal Absorb s ten = first (lengthRefusal 10 ten ∷ wordRefusal (s .state) ∷ wordRefusal ten ∷ [])
 
 abbrev pub steppedBack : StepKind → Tip5 → (ten : List ℕ) → Tip5
 steppedBack Squeeze s ten = unsqueezed s

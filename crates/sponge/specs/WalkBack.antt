@@ -7,7 +7,7 @@ use Rattle.sponge.specs.declared.by_value.SpongeAnswer.{SpongeAnswer}
 use Rattle.sponge.specs.declared.step_back.StepKind.{StepKind}
 use Rattle.sponge.specs.declared.step_back.StepKind.the-variants.{Squeeze, Absorb}
 use Rattle.sponge.specs.declared.Tip5.{Tip5}
-use Rattle.sponge.specs.Answers.{tenRefusal, granted, spongeRefusal, stepBack}
+use Rattle.sponge.specs.Answers.{absorbRefusal, granted, squeezeRefusal, stepBack}
 use Rattle.sponge.specs.History.{Step, after}
 use Rattle.sponge.specs.History.Step.{squeeze, absorb}
 use Rattle.sponge.specs.Sponge.{rate}
@@ -15,8 +15,8 @@ use Rattle.tip5.specs.Judge.{unless}
 
 -- the refusal of the call that makes a step
 abbrev pub stepRefusal : Step → Tip5 → ℕ
-stepRefusal squeeze s = spongeRefusal s
-stepRefusal (absorb ten) s = tenRefusal s ten
+stepRefusal squeeze s = squeezeRefusal s
+stepRefusal (absorb ten) s = absorbRefusal s ten
 
 -- a history from the sponge s on: no step of it is refused where it is made
 abbrev pub Accepted : List Step → Tip5 → Type 0

@@ -1,9 +1,9 @@
 // The sponge by value: each call judges all its words before anything moves and answers the next sponge.
 use crate::RATE;
 use crate::Tip5;
+use crate::judge::judge_absorb;
 use crate::judge::judge_input;
 use crate::judge::judge_sponge;
-use crate::judge::judge_ten;
 use crate::padding::last_ten;
 use crate::put::put;
 use tip5::permutation::permutation;
@@ -11,6 +11,7 @@ use tip5::refusal;
 ghost use mathlib.Core.Path.{_≡_};
 ghost use Prim.Native.Nat.{ℕ, _<_};
 ghost use lib.ListN.{getD, length};
+ghost use Rattle.numbers.specs.Lists.{tab};
 ghost use Rattle.numbers.specs.Modulus.{P};
 ghost use Rattle.sponge.specs.Answers.{padAndAbsorbAll};
 ghost use Rattle.sponge.specs.Answers as Answers;
@@ -43,7 +44,7 @@ fn permute(sponge: Tip5) -> Tip5
 
 // Words 0 to 9.
 fn rate(sponge: Tip5) -> [u64; 10]
-    ensures { λ r. ⌜ r ≡ Sponge.rate sponge ⌝ }
+    ensures { λ r. ⌜ r ≡ tab 10 0 (λ k. getD (sponge .state) k 0) ⌝ }
 {
     let s = sponge.state;
     [s[0], s[1], s[2], s[3], s[4], s[5], s[6], s[7], s[8], s[9]]
@@ -89,7 +90,7 @@ pub(crate) fn absorbed_all(sponge: Tip5, input: &[u64]) -> Tip5
 pub fn absorb(sponge: Tip5, ten: &[u64]) -> SpongeAnswer
     ensures { λ r. ⌜ r ≡ Answers.absorb sponge (now (ten .entry)) ⌝ }
 {
-    let refusal = judge_ten(sponge, ten);
+    let refusal = judge_absorb(sponge, ten);
     if refusal != refusal::NONE {
         return SpongeAnswer { refusal, sponge };
     }

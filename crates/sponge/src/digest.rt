@@ -12,10 +12,10 @@ ghost use mathlib.Core.List.{_++_};
 ghost use mathlib.Core.Path.{_≡_};
 ghost use Prim.Native.Nat.{ℕ, _<_};
 ghost use lib.ListN.{getD, length};
+ghost use Rattle.numbers.specs.Lists.{tab};
 ghost use Rattle.numbers.specs.Modulus.{P};
 ghost use Rattle.sponge.specs.Answers.{hash10, hashPair, hashVarlen};
 ghost use Rattle.sponge.specs.Digest.{digestOf, digestOfPair, digestOfTen};
-ghost use Rattle.sponge.specs.Digest as Digest;
 
 // A refusal or 0, and a digest, which is five zeros where the call is refused.
 pub struct DigestAnswer {
@@ -25,7 +25,7 @@ pub struct DigestAnswer {
 
 // Words 0 to 4.
 fn digest(sponge: Tip5) -> [u64; 5]
-    ensures { λ r. ⌜ r ≡ Digest.digest sponge ⌝ }
+    ensures { λ r. ⌜ r ≡ tab 5 0 (λ k. getD (sponge .state) k 0) ⌝ }
 {
     let s = sponge.state;
     [s[0], s[1], s[2], s[3], s[4]]

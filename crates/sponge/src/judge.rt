@@ -5,7 +5,14 @@ use crate::Tip5;
 use tip5::judge::judge_words;
 use tip5::refusal;
 ghost use mathlib.Core.Path.{_≡_};
-ghost use Rattle.sponge.specs.Answers.{tenRefusal, inputRefusal, hashPairRefusal, placesRefusal, hash10Refusal};
+ghost use Rattle.sponge.specs.declared.step_back.StepKind.the-variants.{Squeeze};
+ghost use Rattle.sponge.specs.Answers.{
+  absorbRefusal,
+  hash10Refusal,
+  hashPairRefusal,
+  padRefusal,
+  stepBackRefusal,
+};
 ghost use Rattle.tip5.specs.Judge.{lengthRefusal, wordRefusal};
 
 // Refusal 2 where there are not as many words as wanted.
@@ -29,7 +36,7 @@ pub(crate) fn judge_sponge(sponge: Tip5) -> u8
 
 // A sponge and an input of any length.
 pub(crate) fn judge_input(sponge: Tip5, input: &[u64]) -> u8
-    ensures { λ r. ⌜ r ≡ inputRefusal sponge (now (input .entry)) ⌝ }
+    ensures { λ r. ⌜ r ≡ padRefusal sponge (now (input .entry)) ⌝ }
 {
     let refusal = judge_sponge(sponge);
     if refusal != refusal::NONE {
@@ -39,8 +46,8 @@ pub(crate) fn judge_input(sponge: Tip5, input: &[u64]) -> u8
 }
 
 // A sponge and ten words.
-pub(crate) fn judge_ten(sponge: Tip5, ten: &[u64]) -> u8
-    ensures { λ r. ⌜ r ≡ tenRefusal sponge (now (ten .entry)) ⌝ }
+pub(crate) fn judge_absorb(sponge: Tip5, ten: &[u64]) -> u8
+    ensures { λ r. ⌜ r ≡ absorbRefusal sponge (now (ten .entry)) ⌝ }
 {
     let refusal = judge_length(RATE, ten);
     if refusal != refusal::NONE {
@@ -51,7 +58,7 @@ pub(crate) fn judge_ten(sponge: Tip5, ten: &[u64]) -> u8
 
 // A sponge and ten places, whose words are not judged.
 pub(crate) fn judge_places(sponge: Tip5, places: &[u64]) -> u8
-    ensures { λ r. ⌜ r ≡ placesRefusal sponge (now (places .entry)) ⌝ }
+    ensures { λ r. ⌜ r ≡ stepBackRefusal Squeeze sponge (now (places .entry)) ⌝ }
 {
     let refusal = judge_length(RATE, places);
     if refusal != refusal::NONE {

@@ -3,8 +3,8 @@
 use crate::Tip5;
 use crate::by_value::SpongeAnswer;
 use crate::by_value::overwrite;
+use crate::judge::judge_absorb;
 use crate::judge::judge_places;
-use crate::judge::judge_ten;
 use tip5::inverse::inv_permutation;
 use tip5::refusal;
 ghost use mathlib.Core.Path.{_≡_};
@@ -56,7 +56,7 @@ fn squeeze_back(sponge: Tip5, places: &[u64]) -> SpongeAnswer
 fn absorb_back(sponge: Tip5, saved: &[u64]) -> SpongeAnswer
     ensures { λ r. ⌜ r ≡ stepBack StepKind.Absorb sponge (now (saved .entry)) ⌝ }
 {
-    let refusal = judge_ten(sponge, saved);
+    let refusal = judge_absorb(sponge, saved);
     if refusal != refusal::NONE {
         return SpongeAnswer { refusal, sponge };
     }

@@ -2,7 +2,7 @@
 -- Assumes nothing.
 use mathlib.Core.Path.{sym, _∙_}
 use Rattle.sponge.specs.History.{paddedSteps, run}
-use Rattle.sponge.proofs.AcceptedLaws.{accepted-input}
+use Rattle.sponge.proofs.AcceptedLaws.{accepted-pad}
 use Rattle.sponge.proofs.AnswerLaws.{answer-granted, answer-refused, spongeAnswer}
 use borrow.Author.Needs.{needs}
 use Rattle.sponge.proofs.by_value.pad_and_absorb_all.Statement.{statement}
@@ -19,7 +19,7 @@ returns c =
 absorbed-all-requires : tie.Need-absorbed-all-requires
 absorbed-all-requires c κs =
     let a = c .before .before .before .args in
-    accepted-input (a .sponge) (a .input .now) (sym (c .before .judge-input .ensures) ∙ c .if1 .left)
+    accepted-pad (a .sponge) (a .input .now) (sym (c .before .judge-input .ensures) ∙ c .if1 .left)
 
 returns-2 : tie.Need-returns-2
 returns-2 c =

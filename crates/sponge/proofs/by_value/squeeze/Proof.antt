@@ -1,5 +1,7 @@
 -- `by_value::squeeze` meets its contract.
 -- Assumes nothing.
+use Rattle.sponge.proofs.RecordLaws.{sixteen}
+use Rattle.sponge.proofs.SpongeLaws.{rate-words}
 use mathlib.Core.Path.{sym, _∙_}
 use lib.ListN.{replicate}
 use Rattle.sponge.specs.Sponge.{rate, squeezed}
@@ -27,8 +29,9 @@ rate-requires c κs = search needs
 returns-2 : tie.Need-returns-2
 unfolding squeezed
 returns-2 c =
-    let s = c .before .before .before .before .args .sponge in
-    answer-granted₂ squeezeAnswer s (replicate 10 0) (c .before .before .before .judge-sponge .ensures) (c .before .before .if1 .left) (c .before .permute .ensures) (c .rate .ensures)
+    let p = c .before .before .before .before in
+    let s = p .args .sponge in
+    answer-granted₂ squeezeAnswer s (replicate 10 0) (c .before .before .before .judge-sponge .ensures) (c .before .before .if1 .left) (c .before .permute .ensures) (c .rate .ensures ∙ rate-words s (sixteen s _ (p .good .0)))
 
 pub squeeze-spec : {M : Type 1} → statement M
 squeeze-spec =

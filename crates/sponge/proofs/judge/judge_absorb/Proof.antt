@@ -1,11 +1,11 @@
--- `judge::judge_ten` meets its contract.
+-- `judge::judge_absorb` meets its contract.
 -- Assumes nothing.
 use mathlib.Core.List.{[], _∷_}
 use Rattle.tip5.specs.Judge.{wordRefusal}
 use Rattle.sponge.proofs.RefusalLaws.{first-goes-on, first-stops}
 use borrow.Author.Needs.{needs}
-use Rattle.sponge.proofs.judge.judge_ten.Statement.{statement}
-use Rattle.sponge.proofs.judge.judge_ten.Tie as tie
+use Rattle.sponge.proofs.judge.judge_absorb.Statement.{statement}
+use Rattle.sponge.proofs.judge.judge_absorb.Tie as tie
 
 judge-length-requires : tie.Need-judge-length-requires
 judge-length-requires c κs = search needs
@@ -24,6 +24,6 @@ returns-2 c =
     first-goes-on (wordRefusal (a .sponge .state) ∷ wordRefusal (a .ten .now) ∷ []) (c .before .before .judge-length .ensures) (c .before .if1 .left)
     (c .judge-input .ensures)
 
-pub judge-ten-spec : {M : Type 1} → statement M
-judge-ten-spec =
+pub judge-absorb-spec : {M : Type 1} → statement M
+judge-absorb-spec =
     tie.close (tie.spec judge-length-requires returns judge-input-requires returns-2)
