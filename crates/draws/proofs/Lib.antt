@@ -6,5 +6,6 @@ pub mod DrawLaws
 pub mod DrawingLaws
 pub mod ExtendedLaws
 pub mod IndexLaws
+pub mod SourceLaws
 pub mod SqueezeLaws
 pub mod WalkBack

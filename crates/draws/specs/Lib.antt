@@ -4,3 +4,4 @@ pub mod Bound
 pub mod Draw
 pub mod Extended
 pub mod InPlace
+pub mod Source

@@ -1,7 +1,6 @@
 // From raw words to indices in a lent slice.
 use tip5::b_field_element::BFieldElement;
 use tip5::b_field_element::Value;
-ghost use mathlib.Core.List.{[], _∷_};
 ghost use mathlib.Core.Path.{_≡_};
 ghost use Prim.Native.Nat.{ℕ, _≤_, _<_};
 ghost use lib.ListN.{getD, length};

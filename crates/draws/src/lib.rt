@@ -9,7 +9,6 @@ use sponge::Tip5;
 use sponge::by_value::squeeze;
 use tip5::judge::judge_words;
 use tip5::refusal;
-ghost use mathlib.Core.List.{[], _∷_};
 ghost use mathlib.Core.Path.{_≡_};
 ghost use Prim.Native.Nat.{_<_};
 ghost use lib.ListN.{length, replicate};
