@@ -3,4 +3,5 @@ pub mod Answers
 pub mod Bound
 pub mod Draw
 pub mod Extended
+pub mod InPlace
 pub mod Source

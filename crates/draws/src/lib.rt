@@ -1,5 +1,6 @@
 // Draws: as many indices as a lent slice holds, out of a sponge's squeezed tens.
 mod bound;
+pub mod in_place;
 mod index;
 
 use bound::judge_bound;

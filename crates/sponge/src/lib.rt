@@ -1,6 +1,7 @@
-// The sponge over Tip5's permutation: absorb, squeeze, padding, digests and one step back, by value.
+// The sponge over Tip5's permutation: absorb, squeeze, padding, digests and one step back, by value and in place.
 pub mod by_value;
 pub mod digest;
+pub mod in_place;
 mod judge;
 mod padding;
 mod put;

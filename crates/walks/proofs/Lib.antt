@@ -1,5 +1,6 @@
 -- What proofs by hand share.
 pub mod Closing
+pub mod Lent
 pub mod Names
 pub mod Stating
 pub mod Walk

@@ -1,7 +1,7 @@
 -- Steps of a walk by hand that several walks make: a local is read, set and freed, and a proved function is called.
 -- In a walk's context each local is a cell, and behind it stands the right to free it; n is where the cell stands.
 -- Assumes nothing.
-use mathlib.Core.Path.{_≡_, subst, sym}
+use mathlib.Core.Path.{_≡_, ap, subst, sym}
 use mathlib.Core.List.{List, [], _∷_}
 use mathlib.Core.Option.{some as present}
 use Prim.Native.Nat.{ℕ, zero, _+_}
@@ -11,25 +11,28 @@ use lib.Dec.{T as Holds}
 use mir.Syntax.{Name, Sym, Ty, Tys, tyStruct, Place, place, field, Opd as Operand, copy, Rv as RValue, Body, seq, assign, call}
 use mir.Val.{Val, Vals, vstruct, WT, hasTy}
 use mir.Fields.{getV, setV}
-use base.Logic.{SProp, ent, sep, emp, id⊢, via, comm∗, emp∗, assoc′, monoL, monoR, snd∗, exE}
+use base.Logic.{SProp, ent, sep, emp, id⊢, via, comm∗, emp∗, assoc′, monoL, monoR}
 use base.Fml.{Share, fat, froom, fdies}
 use prog.Memory.{fieldAt, fieldOf}
 use prog.Wp.{Heap, Env, Calls, Loops, spotOf}
 use ghost.Atoms.{Atoms, sem}
 use sound.WpLaws.{FmC}
 use contract.Monad.{fact}
-use types.Kit.{Given, Item, ‵, raw, _⊛_, some, later, mean, ⋆, nth, del, put, pull, Post, Goal, runs, lands, frees, Seq, Step, step, _$_, move, use1, split, pick, await}
+use types.Kit.{Given, Item, ‵, raw, _⊛_, some, later, mean, ⋆, nth, del, put, pull, Post, Goal, runs, lands, frees, Seq, Step, step, _$_, move, drop, use1, split, pick, await}
 use types.Part.{Part, look-in, sub, whole}
 use types.Run.{Opd, Opds, Rv, assigns, fld, from, init, land, load, look, stop}
 use denote.Laws.{Is, shows}
 use denote.Signature.{Signature, typeAt}
-use denote.Steps.{heard, peeks}
+use denote.Steps.{heard, only, peeks}
+use denote.Struct.Declared.{Declared, row, shape}
+use denote.Struct.Laws as LL
+use denote.Struct.Struct.{layout}
 use denote.Triple.Bound.{Bound, passed}
 use denote.Triple.Call.{calls-from}
-use denote.Triple.Clauses.{Ended, lasts, ensured}
+use denote.Triple.Clauses.{Ended, Lasts, atExit, lasts}
 use denote.Triple.Entry.{Res, alive, onEntry}
 use denote.Triple.Statement.{Triple}
-use Rattle.walks.proofs.Stating.{Answer, stating, Stated}
+use Rattle.walks.proofs.Stating.{Answer, answering, Promise, Promised, Stated}
 
 module _ {M : Type 1} {𝓤 : URA M} {H : Heap 𝓤} {A : Atoms 𝓤} {K : Type 0} {W : Given 𝓤 H A} {Γ : List (Item 𝓤)} {E : Env 𝓤 H} where
   -- a local is read
@@ -47,6 +50,16 @@ module _ {M : Type 1} {𝓤 : URA M} {H : Heap 𝓤} {A : Atoms 𝓤} {K : Type 
       → nth 𝓤 H A n Γ ≡ ‵ (froom (spotOf 𝓤 H E i .0) (spotOf 𝓤 H E i .1) zero) → Holds (hasTy (spotOf 𝓤 H E i .0) v) × WT v
       → Step K W (put 𝓤 H A n (‵ (fat fullShare (spotOf 𝓤 H E i .0) (spotOf 𝓤 H E i .1) zero v)) Γ) (runs C Λ E rest q) Γ (lands C Λ E (place i []) v rest q)
   lands-in t n e typed = land t (from t (stop t)) (init t n e typed)
+
+  -- the same by a result r of a declared type: its machine value is written out
+  pub lands-spelt : K → (D : Declared) (L : LL.Laws D) (r : D .D) {C : Calls 𝓤 H} {Λ : Loops 𝓤 H} {q : Post 𝓤 H} {i : ℕ} {rest : Body} {u : Val} → (n : ℕ)
+      → nth 𝓤 H A n Γ ≡ ‵ (froom (spotOf 𝓤 H E i .0) (spotOf 𝓤 H E i .1) zero) → spotOf 𝓤 H E i .0 ≡ layout (shape D) → Is (row D) r (u ∷ [])
+      → Step K W (put 𝓤 H A n (‵ (fat fullShare (spotOf 𝓤 H E i .0) (spotOf 𝓤 H E i .1) zero (LL.val D L r))) Γ) (runs C Λ E rest q) Γ (lands C Λ E (place i []) u rest q)
+  lands-spelt t D L r {C} {Λ} {q} {i} {rest} {u} n e same is =
+      let spelt : u ≡ LL.val D L r = ap only (LL.tells D L r (u ∷ []) is) in
+      let typed : Holds (hasTy (layout (shape D)) u) × WT u = LL.lawful D L 𝓤 H A W .typed r (u ∷ []) is .0 in
+      subst (λ (v : Val). Step K W (put 𝓤 H A n (‵ (fat fullShare (spotOf 𝓤 H E i .0) (spotOf 𝓤 H E i .1) zero v)) Γ) (runs C Λ E rest q) Γ (lands C Λ E (place i []) u rest q)) spelt
+      (lands-in t n e (subst (λ (τ : Ty). Holds (hasTy τ u) × WT u) (sym same) typed))
 
   -- a field of a local is read
   pub field-of : K → (n k : ℕ) {i : ℕ} {q : Share} {ν : Sym} {τs : Tys} {vs : Vals} {τ : Ty} {d : ℕ} → nth 𝓤 H A n Γ ≡ ‵ (fat q (tyStruct ν τs) (spotOf 𝓤 H E i .1) zero (vstruct vs))
@@ -71,18 +84,27 @@ module _ {M : Type 1} {𝓤 : URA M} {H : Heap 𝓤} {A : Atoms 𝓤} {K : Type 
             (monoR 𝓤 (sep 𝓤 (H .room τ b zero) (H .dies τ b)) (s .prf)))));
       })
 
-  -- a function with a contract of `Stating` is called, with what its parameters own at the head: it answers r, at the machine value u
+  -- a function with a contract of `Stating` is called, with what its parameters own at the head: it returns r, at the machine value u, and ws are the last values
+  pub calls : {C : Calls 𝓤 H} {Λ : Loops 𝓤 H} {q : Post 𝓤 H} {g : Name} {xs : List Operand} {d : Place} {rest : Body} → K → FmC 𝓤 H (W .laws) C
+      → (T : Ended) (ψ : Promise T) → Triple 𝓤 (C g) (Promised 𝓤 T ψ H A) → (x : Bound 𝓤 H A (T .signature))
+      → Opds K W (raw (onEntry 𝓤 H A (T .signature) (x .0) (x .1) (x .3) (x .4)) ∷ Γ) E xs (passed 𝓤 H A (T .signature) x)
+      → ((u : Val) (r : Res (T .signature) (x .0)) (ws : Lasts T (x .0) (x .3)) → ψ (x .0) (x .3) r (atExit T (x .0) (x .3) ws) → Is (typeAt (T .signature .result) (x .0)) r (u ∷ [])
+      → Seq K W (‵ (typeAt (T .signature .result) (x .0) .own r (u ∷ [])) ∷ raw (alive 𝓤 H A (T .signature) (x .0) (x .1)) ∷ ‵ (lasts T (x .0) (x .3) ws) ∷ Γ) (lands C Λ E d u rest q))
+      → Seq K W (raw (onEntry 𝓤 H A (T .signature) (x .0) (x .1) (x .3) (x .4)) ∷ Γ) (runs C Λ E (seq (call g xs d) rest) q)
+  calls t fm T ψ met x os k =
+      let S : Signature = T .signature in
+      let P : SProp 𝓤 = onEntry 𝓤 H A S (x .0) (x .1) (x .3) (x .4) in
+      calls-from t fm (raw P) (passed 𝓤 H A S x) (Promised 𝓤 T ψ H A .post (x, tt)) (via 𝓤 (sep 𝓤 P (emp 𝓤)) (via 𝓤 (sep 𝓤 (emp 𝓤) P) (emp∗ 𝓤 P) (comm∗ 𝓤 (emp 𝓤) P)) (met (x, tt))) os (λ u.
+      use1 W (later (some (λ (r : Res S (x .0)). (raw (alive 𝓤 H A S (x .0) (x .1)) ⊛ ‵ (typeAt (S .result) (x .0) .own r (u ∷ []))) ⊛ some (λ (ws : Lasts T (x .0) (x .3)). ‵ (lasts T (x .0) (x .3) ws) ⊛ raw (fact 𝓤 (ψ (x .0) (x .3) r (atExit T (x .0) (x .3) ws))))))) (id⊢ 𝓤 _) $
+      await t tt $ pick t (λ r. split t $ move t (1 ∷ []) $ pick t (λ ws. split t $ move t (1 ∷ []) $ heard t (ψ (x .0) (x .3) r (atExit T (x .0) (x .3) ws)) (λ e.
+      -- [the last values; the tokens and the result; Γ]
+      move t (1 ∷ []) $ split t $ move t (1 ∷ []) $ peeks t (typeAt (S .result) (x .0)) (Is (typeAt (S .result) (x .0))) (shows 𝓤 H A (typeAt (S .result) (x .0))) r (u ∷ []) (k u r ws e)))))
+
+  -- one with no `&mut`, whose answer is fixed
   pub asks : {C : Calls 𝓤 H} {Λ : Loops 𝓤 H} {q : Post 𝓤 H} {g : Name} {xs : List Operand} {d : Place} {rest : Body} → K → FmC 𝓤 H (W .laws) C
       → (T : Ended) (answer : Answer T) → Triple 𝓤 (C g) (Stated 𝓤 T answer H A) → (x : Bound 𝓤 H A (T .signature))
       → Opds K W (raw (onEntry 𝓤 H A (T .signature) (x .0) (x .1) (x .3) (x .4)) ∷ Γ) E xs (passed 𝓤 H A (T .signature) x)
       → ((u : Val) (r : Res (T .signature) (x .0)) → r ≡ answer (x .0) (x .3) → Is (typeAt (T .signature .result) (x .0)) r (u ∷ [])
       → Seq K W (‵ (typeAt (T .signature .result) (x .0) .own r (u ∷ [])) ∷ raw (alive 𝓤 H A (T .signature) (x .0) (x .1)) ∷ Γ) (lands C Λ E d u rest q))
       → Seq K W (raw (onEntry 𝓤 H A (T .signature) (x .0) (x .1) (x .3) (x .4)) ∷ Γ) (runs C Λ E (seq (call g xs d) rest) q)
-  asks t fm T answer met x os k =
-      let S : Signature = T .signature in
-      let P : SProp 𝓤 = onEntry 𝓤 H A S (x .0) (x .1) (x .3) (x .4) in
-      calls-from t fm (raw P) (passed 𝓤 H A S x) (Stated 𝓤 T answer H A .post (x, tt)) (via 𝓤 (sep 𝓤 P (emp 𝓤)) (via 𝓤 (sep 𝓤 (emp 𝓤) P) (emp∗ 𝓤 P) (comm∗ 𝓤 (emp 𝓤) P)) (met (x, tt))) os (λ u.
-      use1 W (later (some (λ (r : Res S (x .0)). (raw (alive 𝓤 H A S (x .0) (x .1)) ⊛ ‵ (typeAt (S .result) (x .0) .own r (u ∷ []))) ⊛ raw (ensured 𝓤 H A T (stating 𝓤 T answer) (x .0) (x .3) tt r)))) (id⊢ 𝓤 _) $
-      await t tt $ pick t (λ r. split t $ move t (1 ∷ []) $
-      use1 W (raw (fact 𝓤 (r ≡ answer (x .0) (x .3)))) (exE 𝓤 _ (λ ws. snd∗ 𝓤 (sem 𝓤 H A (lasts T (x .0) (x .3) ws)) (fact 𝓤 (r ≡ answer (x .0) (x .3))))) $
-      heard t (r ≡ answer (x .0) (x .3)) (λ e. split t $ move t (1 ∷ []) $ peeks t (typeAt (S .result) (x .0)) (Is (typeAt (S .result) (x .0))) (shows 𝓤 H A (typeAt (S .result) (x .0))) r (u ∷ []) (k u r e))))
+  asks t fm T answer met x os k = calls t fm T (answering T answer) met x os (λ u r ws e is. move t (2 ∷ []) $ drop t $ k u r e is)

@@ -3,7 +3,7 @@
 -- Assumes nothing.
 use Rattle.walks.proofs.Names.{_≡_, refl, ℕ, List, [], _∷_, length, URA, w64, vint, id⊢, monoR, Lft, Share, ftrue, fsep, Heap, Calls, Loops, Atoms, FmC, givenOf, tables}
 use Rattle.walks.proofs.Names.{Given, raw, _$_, _∵_, !, qed, by, move, use1, look, init, of-opd, and-then, no-more, returns, enter, alloc1, alloc0, params1, pass1, pass0, free0}
-use Rattle.walks.proofs.Names.{named, erased, NamedLft, agg, u64, RefT, ShrSlice, slice-vals, shr-slice-tells, shr-slice-lawful, Args, Vals, flat, typesAt, uint-vals, uint-tells, usize, Is, now, namedLft, sliceVal, Bound, alive, onEntry, Triple, cited, Answer, Stated, WalkTo, answered, asks, frees-at, lands-in, lets, local}
+use Rattle.walks.proofs.Names.{named, erased, NamedLft, agg, u64, RefT, ShrSlice, slice-vals, shr-slice-tells, shr-slice-lawful, Args, Vals, flat, typesAt, uint-vals, uint-tells, usize, Is, now, namedLft, sliceVal, Bound, alive, onEntry, Triple, cited, Answer, Stated, WalkAnswering, answered, asks, frees-at, lands-in, lets, local}
 use denote.Struct.Laws as LL
 use Rattle.rows.specs.Column.{entry}
 use Rattle.rows.specs.declared.column.Column.{Column}
@@ -45,7 +45,7 @@ module _ {M : Type 1} (𝓤 : URA M) (H : Heap 𝓤) (A : Atoms 𝓤) (W : Given
   x = ((κ, tt), (q, tt), tt, (d, (row, tt)), (lowered d ∷ [], (vint w64 row ∷ [], tt)))
 
   walk : Is (ShrSlice (named 0) κ u64) s (vss .0) → Is usize stride (vss .1 .0) → Is usize offset (vss .1 .1 .0) → Is usize row (vss .1 .1 .1 .0)
-      → WalkTo 𝓤 H A C Λ code.function f.ended (κ, tt) (q, tt) a vss (found (κ, tt) (x .3))
+      → WalkAnswering 𝓤 H A C Λ code.function f.ended (κ, tt) (q, tt) a vss (found (κ, tt) (x .3))
   walk is-s is-stride is-offset is-row Q end =
       let wt = shr-slice-lawful 𝓤 H A W (named 0) κ u64 .typed s (vss .0) is-s .0 in
       let view-wt = view-typed 𝓤 H A W αᵉ d _ (view-is αᵉ d is-s is-stride is-offset) .0 in
@@ -66,7 +66,7 @@ unfolding code.routine
 column-entry-spec 𝓤 H 𝓜 𝓖 𝓡 =
     answered 𝓤 H 𝓜 𝓖 𝓡 code.env name code.function (code.unfolded 𝓤 H 𝓜 𝓡) f.ended (λ κs. (slice-vals, (uint-vals w64, (uint-vals w64, (uint-vals w64, tt)))))
     (λ κs. (shr-slice-tells (named 0) (κs .0) u64, (uint-tells w64, (uint-tells w64, (uint-tells w64, tt)))))
-    ((λ κs x w. refl), ((λ κs x w. refl), ((λ κs x w. refl), ((λ κs x w. refl), tt)))) (λ κs a. (tt, (tt, (tt, (tt, tt))))) (f.clauses 𝓤 H (𝓖 .A) (𝓜 .mem) (𝓡 .run)) (λ κs a. entry (now (a .0)) (a .1 .0) (a .1 .1 .0) (a .1 .1 .1 .0))
+    (f.clauses 𝓤 H (𝓖 .A) (𝓜 .mem) (𝓡 .run)) ((λ κs x. (tt, refl)), ((λ κs x. (tt, refl)), ((λ κs x. (tt, refl)), ((λ κs x. (tt, refl)), tt)))) (λ κs a. entry (now (a .0)) (a .1 .0) (a .1 .1 .0) (a .1 .1 .1 .0))
     (λ κs a g r e. id⊢ 𝓤 _) (λ fm κs qs a are.
     walk 𝓤 H (𝓖 .A) (givenOf 𝓤 H 𝓜 𝓖) (tables 𝓤 H 𝓜 𝓡 code.env .C) (tables 𝓤 H 𝓜 𝓡 code.env .Λ) fm
     (cited 𝓤 H (Stated 𝓤 callee.ended found H (𝓖 .A)) 𝓜 𝓡 code.env callee-def.name callee-def.routine code.calls-rows·column·Column·get (callee-thm.met 𝓤 H 𝓜 𝓖 𝓡))

@@ -3,7 +3,7 @@
 -- Assumes nothing.
 use Rattle.walks.proofs.Names.{_≡_, refl, ℕ, List, [], _∷_, length, URA, w64, Val, vint, id⊢, monoR, Lft, Share, ftrue, fsep, Heap, Calls, Loops, Atoms, FmC, givenOf, tables}
 use Rattle.walks.proofs.Names.{Given, raw, _$_, _∵_, !, qed, by, move, use1, look, init, of-opd, and-then, no-more, returns, enter, alloc1, alloc0, params1, pass1, pass0, free0}
-use Rattle.walks.proofs.Names.{uint-vals, uint-tells, usize, Is, NamedLft, now, namedLft, sliceVal, Bound, alive, onEntry, Triple, cited, Answer, Stated, WalkTo, answered, asks, field-of, frees-at, lands-in, lets, local}
+use Rattle.walks.proofs.Names.{uint-vals, uint-tells, usize, Is, NamedLft, now, namedLft, sliceVal, Bound, alive, onEntry, Triple, cited, Answer, Stated, WalkAnswering, answered, asks, field-of, frees-at, lands-in, lets, local}
 use denote.Struct.Laws as LL
 use Rattle.rows.specs.Column.{entry}
 use Rattle.rows.specs.declared.column.Column.{Column}
@@ -34,7 +34,7 @@ module _ {M : Type 1} (𝓤 : URA M) (H : Heap 𝓤) (A : Atoms 𝓤) (W : Given
   abbrev x : Bound 𝓤 H A callee.signature
   x = ((κ, tt), (q, tt), tt, (d .elements, (d .stride, (d .offset, (row, tt)))), (sliceVal (d .elements .ptr) (length (d .elements .now)) ∷ [], (vint w64 (d .stride) ∷ [], (vint w64 (d .offset) ∷ [], (row-val, tt)))))
 
-  walk : Is (View α) d (lowered d ∷ []) → Is usize row row-val → WalkTo 𝓤 H A C Λ code.function f.ended (κ, tt) (q, tt) (d, (row, tt)) (lowered d ∷ [], (row-val, tt)) (found (κ, tt) (x .3))
+  walk : Is (View α) d (lowered d ∷ []) → Is usize row row-val → WalkAnswering 𝓤 H A C Λ code.function f.ended (κ, tt) (q, tt) (d, (row, tt)) (lowered d ∷ [], (row-val, tt)) (found (κ, tt) (x .3))
   walk is-view is-row Q end =
       let wt = view-typed 𝓤 H A W α d _ is-view .0 in
       qed W (raw (onEntry 𝓤 H A f.signature (κ, tt) (q, tt) (d, (row, tt)) (lowered d ∷ [], (row-val, tt))) ∷ []) ∵ enter ! C Λ code.function (lowered d ∷ row-val) Q $
@@ -53,7 +53,7 @@ pub get-spec : {M : Type 1} → stated.statement M
 unfolding code.routine
 get-spec 𝓤 H 𝓜 𝓖 𝓡 =
     answered 𝓤 H 𝓜 𝓖 𝓡 code.env name code.function (code.unfolded 𝓤 H 𝓜 𝓡) f.ended (λ κs. (view-vals (namedLft 1 0 tt κs), (uint-vals w64, tt))) (λ κs. (view-tells (namedLft 1 0 tt κs), (uint-tells w64, tt)))
-    ((λ κs x w. refl), ((λ κs x w. refl), tt)) (λ κs a. (tt, (tt, tt))) (f.clauses 𝓤 H (𝓖 .A) (𝓜 .mem) (𝓡 .run)) (λ κs a. entry (now (a .0 .elements)) (a .0 .stride) (a .0 .offset) (a .1 .0))
+    (f.clauses 𝓤 H (𝓖 .A) (𝓜 .mem) (𝓡 .run)) ((λ κs x. (tt, refl)), ((λ κs x. (tt, refl)), tt)) (λ κs a. entry (now (a .0 .elements)) (a .0 .stride) (a .0 .offset) (a .1 .0))
     (λ κs a g r e. id⊢ 𝓤 _) (λ fm κs qs a are.
     walk 𝓤 H (𝓖 .A) (givenOf 𝓤 H 𝓜 𝓖) (tables 𝓤 H 𝓜 𝓡 code.env .C) (tables 𝓤 H 𝓜 𝓡 code.env .Λ) fm
     (cited 𝓤 H (Stated 𝓤 callee.ended found H (𝓖 .A)) 𝓜 𝓡 code.env callee-def.name callee-def.routine code.calls-rows·column·entry (callee-thm.met 𝓤 H 𝓜 𝓖 𝓡))

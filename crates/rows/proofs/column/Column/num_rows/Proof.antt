@@ -3,7 +3,7 @@
 -- Assumes nothing.
 use Rattle.walks.proofs.Names.{_≡_, refl, [], _∷_, length, URA, w64, vint, id⊢, monoR, Lft, Share, ftrue, Heap, Calls, Loops, Atoms, FmC, givenOf, tables}
 use Rattle.walks.proofs.Names.{Given, raw, _$_, _∵_, !, qed, by, move, use1, look, init, of-opd, and-then, no-more, returns, enter, alloc1, alloc0, params1, pass1, pass0, free0}
-use Rattle.walks.proofs.Names.{Is, NamedLft, now, namedLft, sliceVal, Bound, alive, onEntry, Triple, cited, Answer, Stated, WalkTo, answered, asks, field-of, frees-at, lands-in, lets, local}
+use Rattle.walks.proofs.Names.{Is, NamedLft, now, namedLft, sliceVal, Bound, alive, onEntry, Triple, cited, Answer, Stated, WalkAnswering, answered, asks, field-of, frees-at, lands-in, lets, local}
 use denote.Struct.Laws as LL
 use Rattle.rows.specs.Column.{rowCount}
 use Rattle.rows.specs.declared.column.Column.{Column}
@@ -31,7 +31,7 @@ module _ {M : Type 1} (𝓤 : URA M) (H : Heap 𝓤) (A : Atoms 𝓤) (W : Given
   abbrev x : Bound 𝓤 H A callee.signature
   x = ((κ, tt), (q, tt), tt, (d .elements, (d .stride, (d .offset, tt))), (sliceVal (d .elements .ptr) (length (d .elements .now)) ∷ [], (vint w64 (d .stride) ∷ [], (vint w64 (d .offset) ∷ [], tt))))
 
-  walk : Is (View α) d (lowered d ∷ []) → WalkTo 𝓤 H A C Λ code.function f.ended (κ, tt) (q, tt) (d, tt) (lowered d ∷ [], tt) (counts (κ, tt) (x .3))
+  walk : Is (View α) d (lowered d ∷ []) → WalkAnswering 𝓤 H A C Λ code.function f.ended (κ, tt) (q, tt) (d, tt) (lowered d ∷ [], tt) (counts (κ, tt) (x .3))
   walk is-view Q end =
       let wt = view-typed 𝓤 H A W α d _ is-view .0 in
       qed W (raw (onEntry 𝓤 H A f.signature (κ, tt) (q, tt) (d, tt) (lowered d ∷ [], tt)) ∷ []) ∵ enter ! C Λ code.function (lowered d ∷ []) Q $
@@ -50,7 +50,7 @@ pub num-rows-spec : {M : Type 1} → stated.statement M
 unfolding code.routine
 num-rows-spec 𝓤 H 𝓜 𝓖 𝓡 =
     answered 𝓤 H 𝓜 𝓖 𝓡 code.env name code.function (code.unfolded 𝓤 H 𝓜 𝓡) f.ended (λ κs. (view-vals (namedLft 1 0 tt κs), tt)) (λ κs. (view-tells (namedLft 1 0 tt κs), tt))
-    ((λ κs x w. refl), tt) (λ κs a. (tt, tt)) (f.clauses 𝓤 H (𝓖 .A) (𝓜 .mem) (𝓡 .run)) (λ κs a. rowCount (now (a .0 .elements)) (a .0 .stride) (a .0 .offset))
+    (f.clauses 𝓤 H (𝓖 .A) (𝓜 .mem) (𝓡 .run)) ((λ κs x. (tt, refl)), tt) (λ κs a. rowCount (now (a .0 .elements)) (a .0 .stride) (a .0 .offset))
     (λ κs a g r e. id⊢ 𝓤 _) (λ fm κs qs a are.
     walk 𝓤 H (𝓖 .A) (givenOf 𝓤 H 𝓜 𝓖) (tables 𝓤 H 𝓜 𝓡 code.env .C) (tables 𝓤 H 𝓜 𝓡 code.env .Λ) fm
     (cited 𝓤 H (Stated 𝓤 callee.ended counts H (𝓖 .A)) 𝓜 𝓡 code.env callee-def.name callee-def.routine code.calls-rows·column·row-count (callee-thm.met 𝓤 H 𝓜 𝓖 𝓡))
