@@ -27,3 +27,18 @@ uint32_t probe_generated_function(uint64_t words[16]);
 /* The way back. */
 uint32_t probe_inv_permutation(uint64_t *state, size_t n);
 uint32_t probe_inv_round(size_t round, uint64_t *state, size_t n);
+
+/* A sponge, as its sixteen words, and the digests. A refused call leaves the state as it was, and
+ * zeros for a squeezed ten or a digest. */
+uint32_t probe_variable_length(uint64_t state[16]);
+uint32_t probe_fixed_length(uint64_t state[16]);
+uint32_t probe_absorb(uint64_t state[16], const uint64_t *ten, size_t n);
+uint32_t probe_squeeze(uint64_t state[16], uint64_t ten[10]);
+uint32_t probe_pad_and_absorb_all(uint64_t state[16], const uint64_t *input, size_t n);
+uint32_t probe_hash_10(const uint64_t *ten, size_t n, uint64_t digest[5]);
+uint32_t probe_hash_pair(const uint64_t *left, size_t n, const uint64_t *right, size_t m, uint64_t digest[5]);
+uint32_t probe_hash_varlen(const uint64_t *input, size_t n, uint64_t digest[5]);
+
+/* One step back, over a squeeze or an absorb. */
+uint32_t probe_squeeze_back(uint64_t state[16], const uint64_t *places, size_t n);
+uint32_t probe_absorb_back(uint64_t state[16], const uint64_t *saved, size_t n);

@@ -2,5 +2,6 @@
 // each a thin wrapper that promises, in the same words, what the wrapped call promises. It is there
 // for tests and benchmarks and is no part of the product.
 pub mod field;
+pub mod hashing;
 pub mod inverse;
 pub mod permutation;

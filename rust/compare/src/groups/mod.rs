@@ -6,6 +6,7 @@ mod field;
 mod inverse;
 mod permutation;
 mod refusals;
+mod sponge;
 
 use crate::case::Case;
 use cases::Random;
@@ -34,6 +35,7 @@ pub fn all() -> Vec<Maker> {
         field::makers(),
         permutation::makers(),
         inverse::makers(),
+        sponge::makers(),
         exports::makers(),
     ]
     .into_iter()

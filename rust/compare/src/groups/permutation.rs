@@ -40,7 +40,7 @@ pub fn state(random: &mut Random) -> State {
 pub fn refused(call: &'static str, random: &mut Random) -> Case {
     if random.once_in(2) {
         Case::new(call)
-            .kept(&refusals::not_sixteen(random))
+            .kept(&refusals::not_so_many(random, 16))
             .refused(2)
     } else {
         Case::new(call)
@@ -52,7 +52,7 @@ pub fn refused(call: &'static str, random: &mut Random) -> Case {
 /// The same for a call on a round number and a state; a round number over 4 comes first.
 pub fn refused_round(call: &'static str, random: &mut Random) -> Case {
     let (state, refusal) = match random.below(3) {
-        0 => (refusals::not_sixteen(random), 2),
+        0 => (refusals::not_so_many(random, 16), 2),
         1 => (refusals::bad_state(random).to_vec(), 1),
         _ => (states::mixed(random).to_vec(), 0),
     };

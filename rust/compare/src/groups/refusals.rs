@@ -1,26 +1,33 @@
-//! States that a call on sixteen words refuses.
+//! Words that a call refuses.
 
 use cases::{Random, states, words};
 
 /// Sixteen words, of which at least one is p or more.
 pub fn bad_state(random: &mut Random) -> [u64; 16] {
     let mut state = states::mixed(random);
-    let often = 1 + random.below(16);
-    for word in &mut state {
+    spoil(random, &mut state);
+    state
+}
+
+/// Puts words of p or more among these, at least one.
+pub fn spoil(random: &mut Random, words: &mut [u64]) {
+    let length = words.len() as u64;
+    let often = 1 + random.below(length);
+    for word in &mut *words {
         if random.once_in(often) {
             *word = words::bad(random);
         }
     }
-    state[random.below(16) as usize] = words::bad(random);
-    state
+    words[random.below(length) as usize] = words::bad(random);
 }
 
-/// Words of any size, not sixteen of them.
-pub fn not_sixteen(random: &mut Random) -> Vec<u64> {
+/// Words of any size, not so many of them.
+pub fn not_so_many(random: &mut Random, wanted: u64) -> Vec<u64> {
     let length = loop {
         let any = random.below(40);
-        let length = random.pick(&[0, 1, 5, 10, 15, 17, 32, 96, any, any]);
-        if length != 16 {
+        let near = [wanted - 1, wanted + 1, 2 * wanted];
+        let length = random.pick(&[0, 1, 5, 10, 16, near[0], near[1], near[2], any, any]);
+        if length != wanted {
             break length;
         }
     };
