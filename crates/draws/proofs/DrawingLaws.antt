@@ -26,6 +26,8 @@ use Rattle.draws.proofs.ExtendedLaws.{drop-further, extended-found}
 abbrev pub soFar : (now : List ℕ) (found squeezes : ℕ) → Tip5 → Draw
 soFar now found squeezes s = record { indices = take found now; squeezes = squeezes; sponge = s }
 
+-- a draw in progress: the slice is as long as it was, and past what is found as it was; the squeezes that are still allowed are
+-- accepted; and the whole draw is what is found so far and the draw that goes on from here
 pub record Drawing (bound allowance : ℕ) (start : Tip5) (before now : List ℕ) (found squeezes : ℕ) (sponge : Tip5) : Type 0 where
   pub long : length now ≡ length before
   pub within : found ≤ length before
@@ -34,6 +36,7 @@ pub record Drawing (bound allowance : ℕ) (start : Tip5) (before now : List ℕ
   pub accepted : Accepted (replicate (allowance - squeezes) squeeze) sponge
   pub whole : draw bound allowance (length before) start ≡ joined (soFar now found squeezes sponge) (draw bound (allowance - squeezes) (length before - found) sponge)
 
+-- before the first squeeze
 pub drawing-starts : (bound allowance : ℕ) (s : Tip5) (before : List ℕ) → Accepted (replicate allowance squeeze) s → Drawing bound allowance s before before 0 0 s
 drawing-starts bound allowance s before h =
     record {
@@ -53,12 +56,13 @@ unfolding after
 next-accepted s e h = subst (λ (k : ℕ). Accepted (replicate k squeeze) s) e h
 
 module _ {bound allowance : ℕ} {start : Tip5} {before now : List ℕ} {found squeezes : ℕ} {sponge : Tip5} where
-  -- it is accepted
+  -- it is not refused
   pub drawing-squeezes : Drawing bound allowance start before now found squeezes sponge → squeezes < allowance → squeezeRefusal sponge ≡ 0
   drawing-squeezes d h =
       let more : allowance - squeezes ≡ suc (allowance - (squeezes + 1)) = omega arith in
       next-accepted sponge more (d .accepted) .0
 
+  -- after it, with its words put into the slice
   pub drawing-turn : {after : List ℕ} {r : ℕ} → Drawing bound allowance start before now found squeezes sponge → squeezes < allowance → found < length before
       → Extended now found (fromWords bound (rate sponge)) r after → Drawing bound allowance start before after r (squeezes + 1) (squeezed sponge)
   unfolding fromTen

@@ -44,7 +44,7 @@ fn judge_draw(sponge: Tip5, bound: u32) -> u8
     judge_bound(bound)
 }
 
-// Squeezes while indices are missing and the allowance is not spent.
+// Squeezes while indices are missing and the allowance is not spent: none of the squeezes that it may make is refused.
 fn draw(sponge: Tip5, bound: u32, indices: &mut [u32], allowance: u64) -> DrawAnswer
     requires { ⌜ 0 < bound ⌝ }
     requires { ⌜ Accepted (replicate allowance squeeze) sponge ⌝ }
@@ -78,7 +78,8 @@ fn draw(sponge: Tip5, bound: u32, indices: &mut [u32], allowance: u64) -> DrawAn
     }
 }
 
-// Indices below a bound, a power of two, until the slice is full or the allowance of squeezes is spent.
+// Indices below the bound, until the slice is full or the allowance of squeezes is spent. Refused 1 for a bad word, 3 for a
+// bound that is no power of two, 6 where the allowance is spent and indices are missing: those found stand in front.
 pub fn sample_indices(sponge: Tip5, bound: u32, indices: &mut [u32], allowance: u64) -> DrawAnswer
     ensures { λ r. ⌜ (r ≡ sampleIndices sponge bound allowance (length (now (indices .entry))))
         × (now (indices .exit) ≡ sampledSlice sponge bound allowance (now (indices .entry))) ⌝ }
