@@ -14,5 +14,6 @@ pub absorb-spec : {M : Type 1} → statement M
 unfolding code.routine
 absorb-spec 𝓤 H 𝓜 𝓖 𝓡 =
     lent-meets 𝓤 H 𝓜 𝓖 𝓡 code.env name callee.name (code.unfolded 𝓤 H 𝓜 𝓡) absorb
-    (cited 𝓤 H (Stated 𝓤 ByValue (by-value absorb) H (𝓖 .A)) 𝓜 𝓡 code.env callee.name callee.routine code.calls-sponge·by-value·absorb (callee-thm.met 𝓤 H 𝓜 𝓖 𝓡))
+    (cited 𝓤 H (Stated 𝓤 ByValue (by-value absorb) H (𝓖 .A)) 𝓜 𝓡 code.env callee.name callee.routine code.calls-sponge·by-value·absorb
+    (callee-thm.met 𝓤 H 𝓜 𝓖 𝓡))
     (clauses 𝓤 H (𝓖 .A) (𝓜 .mem) (𝓡 .run)) (λ κs a g r e. id⊢ 𝓤 _)

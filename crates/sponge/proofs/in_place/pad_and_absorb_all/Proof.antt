@@ -14,5 +14,6 @@ pub pad-and-absorb-all-spec : {M : Type 1} → statement M
 unfolding code.routine
 pad-and-absorb-all-spec 𝓤 H 𝓜 𝓖 𝓡 =
     lent-meets 𝓤 H 𝓜 𝓖 𝓡 code.env name callee.name (code.unfolded 𝓤 H 𝓜 𝓡) padAndAbsorbAll
-    (cited 𝓤 H (Stated 𝓤 ByValue (by-value padAndAbsorbAll) H (𝓖 .A)) 𝓜 𝓡 code.env callee.name callee.routine code.calls-sponge·by-value·pad-and-absorb-all (callee-thm.met 𝓤 H 𝓜 𝓖 𝓡))
+    (cited 𝓤 H (Stated 𝓤 ByValue (by-value padAndAbsorbAll) H (𝓖 .A)) 𝓜 𝓡 code.env callee.name callee.routine code.calls-sponge·by-value·pad-and-absorb-all
+    (callee-thm.met 𝓤 H 𝓜 𝓖 𝓡))
     (clauses 𝓤 H (𝓖 .A) (𝓜 .mem) (𝓡 .run)) (λ κs a g r e. id⊢ 𝓤 _)
