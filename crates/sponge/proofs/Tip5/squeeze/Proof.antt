@@ -1,4 +1,4 @@
--- `in_place::squeeze` meets its contract: a walk of its MIR, by hand. The record is copied out, the squeeze by value answers, the
+-- `Tip5::squeeze` meets its contract: a walk of its MIR, by hand. The record is copied out, the squeeze by value answers, the
 -- answered record is put back whole, and the refusal and the ten words are returned. All that the proof knows of the squeeze by
 -- value is that it meets its contract.
 -- Assumes nothing.
@@ -23,10 +23,10 @@ use Rattle.sponge.proofs.in_place.TenAnswer.Laws as R′
 use Rattle.sponge.proofs.by_value.squeeze as callee
 use Rattle.sponge.proofs.by_value.squeeze.Symbol as callee-def
 use Rattle.sponge.proofs.by_value.squeeze.Met as callee-thm
-use Rattle.sponge.proofs.in_place.squeeze.Key.{name}
-use Rattle.sponge.proofs.in_place.squeeze.{clauses}
-use Rattle.sponge.proofs.in_place.squeeze.Statement.{statement}
-use Rattle.sponge.proofs.in_place.squeeze.Code as code
+use Rattle.sponge.proofs.Tip5.squeeze.Key.{name}
+use Rattle.sponge.proofs.Tip5.squeeze.{clauses}
+use Rattle.sponge.proofs.Tip5.squeeze.Statement.{statement}
+use Rattle.sponge.proofs.Tip5.squeeze.Code as code
 
 -- what the callee answers
 abbrev answers : Answer callee.ended

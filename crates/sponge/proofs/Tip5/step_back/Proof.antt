@@ -1,4 +1,4 @@
--- `in_place::step_back` meets its contract: a walk of its MIR, by hand. It is the walk of `LentWalk` with the kind of the step
+-- `Tip5::step_back` meets its contract: a walk of its MIR, by hand. It is the walk of `LentWalk` with the kind of the step
 -- passed on besides. All that the proof knows of the step back by value is that it meets its contract.
 -- Assumes nothing.
 use Rattle.walks.proofs.Names.{_≡_, refl, ℕ, List, [], _∷_, length, URA, named, w8, Val, vptr, id⊢, Lft, Share, ftrue, flft, Heap, Calls, Loops, Atoms, FmC}
@@ -22,10 +22,10 @@ use Rattle.sponge.proofs.step_back.StepKind.Laws as T′
 use Rattle.sponge.proofs.step_back.step_back as callee
 use Rattle.sponge.proofs.step_back.step_back.Symbol as callee-def
 use Rattle.sponge.proofs.step_back.step_back.Met as callee-thm
-use Rattle.sponge.proofs.in_place.step_back.Key.{name}
-use Rattle.sponge.proofs.in_place.step_back.{clauses}
-use Rattle.sponge.proofs.in_place.step_back.Statement.{statement}
-use Rattle.sponge.proofs.in_place.step_back.Code as code
+use Rattle.sponge.proofs.Tip5.step_back.Key.{name}
+use Rattle.sponge.proofs.Tip5.step_back.{clauses}
+use Rattle.sponge.proofs.Tip5.step_back.Statement.{statement}
+use Rattle.sponge.proofs.Tip5.step_back.Code as code
 
 -- what the callee answers
 abbrev answers : Answer callee.ended
