@@ -41,11 +41,13 @@ module _ (words : List ℕ) (stride offset row : ℕ) {r : CountAnswer} (counted
 
   pub entry-past : r .count ≤ row → _≡_ {A = EntryAnswer} (record { refusal = 7; word = 0 }) (entry words stride offset row)
   entry-past h =
-      let refused : entryRefusal words stride offset row ≡ 7 = not-tested (ltb offset stride) (length words / stride) row (wordRefusal (wordAt words stride offset row ∷ []) ∷ []) (rw counted at h) in
+      let refused : entryRefusal words stride offset row ≡ 7 = not-tested (ltb offset stride) (length words / stride) row
+      (wordRefusal (wordAt words stride offset row ∷ []) ∷ []) (rw counted at h) in
       ap (λ (n : ℕ). record { refusal = n; word = unless n (wordAt words stride offset row) 0 }) (sym refused)
 
   pub entry-bad : row < r .count → P ≤ wordAt words stride offset row → _≡_ {A = EntryAnswer} (record { refusal = 1; word = 0 }) (entry words stride offset row)
   entry-bad h bad = simp (lt-ltb _ _ (there h .0), lt-ltb _ _ (there h .1), le-ltb _ _ bad)
 
-  pub entry-granted : row < r .count → wordAt words stride offset row < P → _≡_ {A = EntryAnswer} (record { refusal = 0; word = wordAt words stride offset row }) (entry words stride offset row)
+  pub entry-granted : row < r .count → wordAt words stride offset row < P
+      → _≡_ {A = EntryAnswer} (record { refusal = 0; word = wordAt words stride offset row }) (entry words stride offset row)
   entry-granted h good = simp (lt-ltb _ _ (there h .0), lt-ltb _ _ (there h .1), lt-ltb _ _ good)

@@ -34,7 +34,8 @@ module _ (α : NamedLft) where
   view-tells = LL.tells (T.the-type α) (T′.the-laws α)
 
   -- it is a view's machine value if the parts are their types'
-  pub view-is : (d : Column) → Is (ShrSlice (α .mir) (α .lft) u64) (d .elements) (sliceVal (d .elements .ptr) (length (d .elements .now)) ∷ []) → Is usize (d .stride) (vint w64 (d .stride) ∷ []) → Is usize (d .offset) (vint w64 (d .offset) ∷ [])
+  pub view-is : (d : Column) → Is (ShrSlice (α .mir) (α .lft) u64) (d .elements) (sliceVal (d .elements .ptr) (length (d .elements .now)) ∷ [])
+      → Is usize (d .stride) (vint w64 (d .stride) ∷ []) → Is usize (d .offset) (vint w64 (d .offset) ∷ [])
       → Is View d (T′.lowered d ∷ [])
   view-is d is-elements is-stride is-offset = LL.owes (T.the-type α) (T′.the-laws α) d (is-elements, (is-stride, (is-offset, tt)))
 
@@ -53,11 +54,15 @@ module _ {M : Type 1} (𝓤 : URA M) (H : Heap 𝓤) (A : Atoms 𝓤) (W : Given
   view-open P =
       let L = T′.the-laws α in
       qed W (‵ (fsep (View α .own d (T′.lowered d ∷ [])) P) ∷ []) ∵ fsplit ! $
-      use1 W (given (T′.lowered d ∷ [] ≡ T′.lowered d ∷ []) (‵ (all-own (T.the-type α .parts) L (d .elements, (d .stride, (d .offset, tt)))))) (own-open 𝓤 H A W (T.the-type α) L (d .elements, (d .stride, (d .offset, tt))) (T′.lowered d)) $ learn ! (λ _.
-      fsplit3 ! $ move ! (2 ∷ []) $ fsplit ! $ move ! (0 ∷ 4 ∷ []) $ fjoin ! $ move ! (3 ∷ 0 ∷ []) $ fjoin ! $ move ! (2 ∷ 0 ∷ []) $ fjoin ! $ keep ! (0 ∷ []) $ done !)
+      use1 W (given (T′.lowered d ∷ [] ≡ T′.lowered d ∷ []) (‵ (all-own (T.the-type α .parts) L (d .elements, (d .stride, (d .offset, tt))))))
+      (own-open 𝓤 H A W (T.the-type α) L (d .elements, (d .stride, (d .offset, tt))) (T′.lowered d)) $ learn ! (λ _.
+      fsplit3 ! $ move ! (2 ∷ []) $ fsplit ! $ move ! (0 ∷ 4 ∷ []) $ fjoin ! $ move ! (3 ∷ 0 ∷ []) $ fjoin ! $ move ! (2 ∷ 0 ∷ []) $ fjoin ! $ keep ! (0 ∷ []) $
+      done !)
 
   -- and made of its parts
   pub view-shut : (P : Fml) → ent 𝓤 (sem 𝓤 H A (parts-own α d P)) (sem 𝓤 H A (fsep (View α .own d (T′.lowered d ∷ [])) P))
   view-shut P =
-      qed W (‵ (parts-own α d P) ∷ []) ∵ fsplit3 ! $ move ! (2 ∷ []) $ fsplit ! $ nothing ! $ move ! (1 ∷ 0 ∷ []) $ fjoin ! $ move ! (3 ∷ 0 ∷ []) $ fjoin ! $ move ! (2 ∷ 0 ∷ []) $ fjoin ! $
-      use1 W (‵ (View α .own d (T′.lowered d ∷ []))) (own-shut 𝓤 H A W (T.the-type α) (T′.the-laws α) (d .elements, (d .stride, (d .offset, tt)))) $ fjoin ! $ done !
+      qed W (‵ (parts-own α d P) ∷ []) ∵ fsplit3 ! $ move ! (2 ∷ []) $ fsplit ! $ nothing ! $ move ! (1 ∷ 0 ∷ []) $ fjoin ! $ move ! (3 ∷ 0 ∷ []) $ fjoin ! $
+      move ! (2 ∷ 0 ∷ []) $ fjoin ! $
+      use1 W (‵ (View α .own d (T′.lowered d ∷ []))) (own-shut 𝓤 H A W (T.the-type α) (T′.the-laws α) (d .elements, (d .stride, (d .offset, tt)))) $ fjoin ! $
+      done !

@@ -38,12 +38,14 @@ shared-slice-read-word c =
 returns-2 : tie.Need-returns-2
 returns-2 c =
     let a = c .before .before .before .before .before .before .args in
-    entry-bad (a .words .now) (a .stride) (a .offset) (a .row) (c .before .before .before .before .row-count .ensures) (c .before .before .if1 .left) (c .if2 .taken)
+    entry-bad (a .words .now) (a .stride) (a .offset) (a .row) (c .before .before .before .before .row-count .ensures) (c .before .before .if1 .left)
+    (c .if2 .taken)
 
 returns-3 : tie.Need-returns-3
 returns-3 c =
     let a = c .before .before .before .before .before .before .args in
-    entry-granted (a .words .now) (a .stride) (a .offset) (a .row) (c .before .before .before .before .row-count .ensures) (c .before .before .if1 .left) (c .if2 .left)
+    entry-granted (a .words .now) (a .stride) (a .offset) (a .row) (c .before .before .before .before .row-count .ensures) (c .before .before .if1 .left)
+    (c .if2 .left)
 
 pub entry-spec : {M : Type 1} → statement M
 entry-spec =
