@@ -7,18 +7,20 @@ const USAGE: Usage = Usage {
     help: "\
 bench: time our calls against the real twenty-first source
 
-  --states N       states for each call (default 1000000; an inverse takes a twentieth)
-  --only NAME      only this call: generated_function, permutation or inv_permutation
-  --iterations N   no clock: run one side so often, for a tool that counts instructions.
+  --calls N        calls on a state (default 1000000; an inverse is called a twentieth as often,
+                   and a list as often as takes a like time)
+  --only NAME      only this call: generated_function, permutation, inv_permutation,
+                   hash_varlen_10, hash_varlen_1000 or hash_varlen_100000
+  --iterations N   no clock: make one call so often, for a tool that counts instructions.
                    --only then names the side too: ours-permutation, theirs-permutation, ..
   --help           this text
 ",
-    with_value: &["--states", "--only", "--iterations"],
+    with_value: &["--calls", "--only", "--iterations"],
     alone: &[],
 };
 
 pub struct Options {
-    pub states: usize,
+    pub calls: usize,
     pub only: String,
     pub iterations: Option<usize>,
 }
@@ -27,7 +29,7 @@ impl Options {
     pub fn read() -> Self {
         let given = USAGE.read();
         Self {
-            states: given.number("--states").unwrap_or(1_000_000),
+            calls: given.number("--calls").unwrap_or(1_000_000),
             only: given.text("--only").unwrap_or_default().to_string(),
             iterations: given.number("--iterations"),
         }

@@ -1,62 +1,39 @@
-//! One side of a comparison: a block of states that it holds as its calls want them.
+//! One side of a comparison: a block of inputs that it holds as its calls want them.
 
-use calls::OnState;
-use oracle::State;
-use oracle::timed::{self, Inverse, Sponge};
+use calls::OnList;
+use oracle::{Five, State};
 
 pub trait Side {
-    /// Takes these states in place of what it holds.
-    fn load(&mut self, states: &[State]);
+    /// Takes these words in place of what it holds, so many for each call.
+    fn load(&mut self, words: &[u64]);
     /// Makes the call on each. This is what is timed.
     fn run(&mut self);
-    /// What it holds.
-    fn states(&self) -> Vec<State>;
+    /// What the calls answered.
+    fn answers(&self) -> Vec<u64>;
 }
 
-/// A state of ours, aligned as the source aligns its own.
-#[repr(align(64))]
-struct Aligned(State);
-
-/// Our side: a linked call on a state.
-pub struct Ours {
-    call: OnState,
-    held: Vec<Aligned>,
-}
-
-impl Ours {
-    pub fn new(call: OnState) -> Self {
-        let held = vec![];
-        Self { call, held }
-    }
-}
-
-impl Side for Ours {
-    fn load(&mut self, states: &[State]) {
-        self.held.clear();
-        self.held.extend(states.iter().map(|&state| Aligned(state)));
-    }
-
-    fn run(&mut self) {
-        for Aligned(state) in &mut self.held {
-            assert_eq!((self.call)(state), 0);
-        }
-    }
-
-    fn states(&self) -> Vec<State> {
-        self.held.iter().map(|held| held.0).collect()
-    }
-}
-
-/// The source's side, over the type that its call works on.
-pub struct Theirs<T> {
-    new: fn(State) -> T,
+/// Calls on a state in place, over the type that a side holds a state in.
+pub struct States<T, New> {
+    new: New,
     call: fn(&mut T),
     state: fn(&T) -> State,
     held: Vec<T>,
 }
 
-impl<T> Side for Theirs<T> {
-    fn load(&mut self, states: &[State]) {
+impl<T, New: Fn(State) -> T> States<T, New> {
+    pub fn new(new: New, call: fn(&mut T), state: fn(&T) -> State) -> Self {
+        Self {
+            new,
+            call,
+            state,
+            held: vec![],
+        }
+    }
+}
+
+impl<T, New: Fn(State) -> T> Side for States<T, New> {
+    fn load(&mut self, words: &[u64]) {
+        let (states, _) = words.as_chunks();
         self.held.clear();
         self.held
             .extend(states.iter().map(|&state| (self.new)(state)));
@@ -66,34 +43,45 @@ impl<T> Side for Theirs<T> {
         self.held.iter_mut().for_each(self.call);
     }
 
-    fn states(&self) -> Vec<State> {
-        self.held.iter().map(self.state).collect()
+    fn answers(&self) -> Vec<u64> {
+        self.held.iter().flat_map(self.state).collect()
     }
 }
 
-pub fn generated_function() -> Theirs<State> {
-    Theirs {
-        new: |words| words,
-        call: timed::generated_function,
-        state: |words| *words,
-        held: vec![],
+/// Calls on lists of one length.
+pub struct Lists {
+    length: usize,
+    call: OnList,
+    words: Vec<u64>,
+    digests: Vec<Five>,
+}
+
+impl Lists {
+    pub fn new(length: usize, call: OnList) -> Self {
+        Self {
+            length,
+            call,
+            words: vec![],
+            digests: vec![],
+        }
     }
 }
 
-pub fn permutation() -> Theirs<Sponge> {
-    Theirs {
-        new: Sponge::new,
-        call: Sponge::permutation,
-        state: Sponge::state,
-        held: vec![],
+impl Side for Lists {
+    fn load(&mut self, words: &[u64]) {
+        self.words.clear();
+        self.words.extend(words);
+        self.digests = vec![[0; 5]; words.len() / self.length];
     }
-}
 
-pub fn inv_permutation() -> Theirs<Inverse> {
-    Theirs {
-        new: Inverse::new,
-        call: Inverse::inv_permutation,
-        state: Inverse::state,
-        held: vec![],
+    fn run(&mut self) {
+        let lists = self.words.chunks(self.length);
+        for (list, digest) in lists.zip(&mut self.digests) {
+            assert_eq!((self.call)(list, digest), 0);
+        }
+    }
+
+    fn answers(&self) -> Vec<u64> {
+        self.digests.concat()
     }
 }

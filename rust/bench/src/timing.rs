@@ -3,12 +3,13 @@
 use crate::items::{ITEMS, Item};
 use crate::options::Options;
 use crate::side::Side;
-use cases::{Random, states};
-use oracle::State;
+use cases::Random;
+use oracle::field::P;
 use std::time::Instant;
 
-/// States in a block: 128 KiB, which stay in a cache that is warm.
-const BLOCK: usize = 1000;
+/// Words in a block: 125 KiB, which stay in a cache that is warm. A longer list is a block of its
+/// own.
+const BLOCK: usize = 16_000;
 
 /// Prints the table of times.
 pub fn table(options: &Options) -> Result<(), String> {
@@ -19,67 +20,73 @@ pub fn table(options: &Options) -> Result<(), String> {
     }
     println!("ns for each call, least block (median block)");
     println!(
-        "{:<20} {:>9} {:>18} {:>18} {:>16}",
-        "call", "states", "ours", "theirs", "ratio"
+        "{:<20} {:>9} {:>22} {:>22} {:>16} {:>14}",
+        "call", "calls", "ours", "theirs", "ratio", "ours, a word"
     );
     for item in items {
-        let Some(ours) = item.ours() else {
+        let Some(ours) = (item.ours)(item) else {
             println!("{:<20} not linked", item.name);
             continue;
         };
-        let count = (options.states / item.share).max(BLOCK);
-        let times = race(count, [ours, item.theirs()]);
-        let [our, their] = times.map(|mut blocks| {
-            blocks.sort_by(f64::total_cmp);
-            (blocks[0], blocks[blocks.len() / 2])
+        let block = (BLOCK / item.size).max(1);
+        let blocks = (options.calls / item.share).div_ceil(block).max(1);
+        let times = race(item.size * block, blocks, [ours, (item.theirs)(item)]);
+        let [our, their] = times.map(|mut times| {
+            times.sort_by(f64::total_cmp);
+            [times[0], times[times.len() / 2]].map(|time| time / block as f64)
         });
         println!(
-            "{:<20} {count:>9} {:>18} {:>18} {:>16}",
+            "{:<20} {:>9} {:>22} {:>22} {:>16} {:>14}",
             item.name,
-            format!("{:.1} ({:.1})", our.0, our.1),
-            format!("{:.1} ({:.1})", their.0, their.1),
-            format!("{:.3} ({:.3})", our.0 / their.0, our.1 / their.1),
+            blocks * block,
+            format!("{:.1} ({:.1})", our[0], our[1]),
+            format!("{:.1} ({:.1})", their[0], their[1]),
+            format!("{:.3} ({:.3})", our[0] / their[0], our[1] / their[1]),
+            format!("{:.1}", our[0] / item.size as f64),
         );
     }
     Ok(())
 }
 
-/// The time of each block for each side, in ns for a call. The sides take turns in going first,
-/// and what they answer is compared.
-fn race(count: usize, mut sides: [Box<dyn Side>; 2]) -> [Vec<f64>; 2] {
+fn good(random: &mut Random, count: usize) -> Vec<u64> {
+    (0..count).map(|_| random.below(P)).collect()
+}
+
+/// The time of each block for each side, in ns. The sides take turns in going first, and what they
+/// answer is compared.
+fn race(size: usize, blocks: usize, mut sides: [Box<dyn Side>; 2]) -> [Vec<f64>; 2] {
     let mut random = Random::new(1, "bench");
-    let all: Vec<State> = (0..count).map(|_| states::random(&mut random)).collect();
     let mut times = [vec![], vec![]];
-    for (turn, block) in all.chunks(BLOCK).enumerate() {
+    for turn in 0..blocks {
+        let words = good(&mut random, size);
         for side in [turn % 2, 1 - turn % 2] {
-            sides[side].load(block);
+            sides[side].load(&words);
             let start = Instant::now();
             sides[side].run();
-            let took = start.elapsed().as_nanos() as f64;
-            times[side].push(took / block.len() as f64);
+            times[side].push(start.elapsed().as_nanos() as f64);
         }
         assert!(
-            sides[0].states() == sides[1].states(),
+            sides[0].answers() == sides[1].answers(),
             "the two sides answer differently"
         );
     }
     times
 }
 
-/// Runs one side so often on one block, for a tool that counts instructions.
+/// Makes one call so often on one side, for a tool that counts instructions.
 pub fn repeat(only: &str, iterations: usize) -> Result<(), String> {
     let (side, name) = only.split_once('-').ok_or("--only names no side")?;
     let item = ITEMS.iter().find(|item| item.name == name);
     let item = item.ok_or_else(|| format!("nothing is called {name}"))?;
     let mut side = match side {
-        "ours" => item.ours().ok_or_else(|| format!("{name} is not linked"))?,
-        "theirs" => item.theirs(),
+        "ours" => (item.ours)(item).ok_or_else(|| format!("{name} is not linked"))?,
+        "theirs" => (item.theirs)(item),
         other => return Err(format!("there is no side {other}")),
     };
-    side.load(&[states::random(&mut Random::new(1, "bench"))]);
+    side.load(&good(&mut Random::new(1, "bench"), item.size));
     for _ in 0..iterations {
         side.run();
     }
-    std::hint::black_box(side.states());
+    std::hint::black_box(side.answers());
     Ok(())
 }

@@ -55,3 +55,13 @@ pub fn generated_function(words: &mut [u64; STATE_SIZE]) {
 pub fn hash_varlen(input: &[u64]) -> Five {
     sponge::hash_varlen(input)
 }
+
+/// The same for `count.c`, which lends a pointer and a length.
+///
+/// # Safety
+/// There are so many words at `input`, and room for a digest.
+#[unsafe(export_name = "theirs_hash_varlen")]
+pub unsafe extern "C" fn hash_varlen_at(input: *const u64, length: usize, digest: *mut Five) {
+    // SAFETY: as the caller says.
+    unsafe { *digest = hash_varlen(std::slice::from_raw_parts(input, length)) }
+}
