@@ -1,2 +1,3 @@
--- What it is for two lists to differ.
+-- What the replay programs compare, and what they take out of a list.
 pub mod Difference
+pub mod Part

@@ -3,39 +3,14 @@
 mod vectors;
 
 use replay::differ;
+use replay::part;
+use replay::sixteen;
 use tip5::inverse;
 use tip5::permutation;
 use tip5::permutation::StateAnswer;
 
 // Answers that are compared on one trace: itself, and the permutation and five rounds in four ways.
 const ANSWERS: u64 = 25;
-
-// The word at a place, 0 past the end.
-fn word(words: &[u64], at: usize) -> u64 {
-    if at < words.len() { words[at] } else { 0 }
-}
-
-// The first sixteen words.
-fn state(words: &[u64]) -> [u64; 16] {
-    [
-        word(words, 0),
-        word(words, 1),
-        word(words, 2),
-        word(words, 3),
-        word(words, 4),
-        word(words, 5),
-        word(words, 6),
-        word(words, 7),
-        word(words, 8),
-        word(words, 9),
-        word(words, 10),
-        word(words, 11),
-        word(words, 12),
-        word(words, 13),
-        word(words, 14),
-        word(words, 15),
-    ]
-}
 
 // 1 where the answer is refused or holds another state, otherwise 0.
 fn by_value(answer: StateAnswer, want: &[u64]) -> u64 {
@@ -55,20 +30,20 @@ fn in_place(refusal: u8, got: &[u64], want: &[u64]) -> u64 {
 }
 
 fn of_trace(trace: &[u64]) -> u64 {
-    let answer = permutation::trace(state(trace));
+    let answer = permutation::trace(sixteen(trace));
     let got = answer.states;
     in_place(answer.refusal, &got, trace)
 }
 
 fn permuted(entry: &[u64], want: &[u64]) -> u64 {
-    let mut lent = state(entry);
+    let mut lent = sixteen(entry);
     let one = by_value(permutation::permutation(lent), want);
     let refusal = permutation::permute(&mut lent);
     std::num::wrapping_add_u64(one, in_place(refusal, &lent, want))
 }
 
 fn walked_back(entry: &[u64], want: &[u64]) -> u64 {
-    let mut lent = state(entry);
+    let mut lent = sixteen(entry);
     let one = by_value(inverse::inv_permutation(lent), want);
     let refusal = inverse::inv_permute(&mut lent);
     std::num::wrapping_add_u64(one, in_place(refusal, &lent, want))
@@ -79,14 +54,14 @@ fn of_permutation(before: &[u64], after: &[u64]) -> u64 {
 }
 
 fn moved(round: usize, entry: &[u64], want: &[u64]) -> u64 {
-    let mut lent = state(entry);
+    let mut lent = sixteen(entry);
     let one = by_value(permutation::round(round, lent), want);
     let refusal = permutation::permute_round(round, &mut lent);
     std::num::wrapping_add_u64(one, in_place(refusal, &lent, want))
 }
 
 fn moved_back(round: usize, entry: &[u64], want: &[u64]) -> u64 {
-    let mut lent = state(entry);
+    let mut lent = sixteen(entry);
     let one = by_value(inverse::inv_round(round, lent), want);
     let refusal = inverse::inv_permute_round(round, &mut lent);
     std::num::wrapping_add_u64(one, in_place(refusal, &lent, want))
@@ -99,25 +74,14 @@ fn of_round(round: usize, before: &[u64], after: &[u64]) -> u64 {
     )
 }
 
-// Sixteen words from a place on, or all words where there are not so many.
-fn sixteen(words: &[u64], at: usize) -> &[u64] {
-    if words.len() < 16 {
-        return words;
-    }
-    if words.len() - 16 < at {
-        return words;
-    }
-    &words[at..at + 16]
-}
-
 // How many answers on one trace differ.
 fn on_one(trace: &[u64]) -> u64 {
-    let s0 = sixteen(trace, 0);
-    let s1 = sixteen(trace, 16);
-    let s2 = sixteen(trace, 32);
-    let s3 = sixteen(trace, 48);
-    let s4 = sixteen(trace, 64);
-    let s5 = sixteen(trace, 80);
+    let s0 = part(trace, 0, 16);
+    let s1 = part(trace, 16, 16);
+    let s2 = part(trace, 32, 16);
+    let s3 = part(trace, 48, 16);
+    let s4 = part(trace, 64, 16);
+    let s5 = part(trace, 80, 16);
     let mut found = of_trace(trace);
     found = std::num::wrapping_add_u64(found, of_permutation(s0, s5));
     found = std::num::wrapping_add_u64(found, of_round(0, s0, s1));

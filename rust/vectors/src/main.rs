@@ -4,6 +4,7 @@
 mod field;
 mod permutation;
 mod rattle;
+mod sponge;
 
 use std::path::Path;
 use std::process::ExitCode;
@@ -23,6 +24,7 @@ fn main() -> ExitCode {
             "crates/replay_permutation/src/vectors.rt",
             permutation::file(),
         ),
+        ("crates/replay_sponge/src/vectors.rt", sponge::file()),
     ];
     for (path, text) in files {
         let path = Path::new(root).join(path);
