@@ -1,11 +1,11 @@
--- The worked cases that are marked to be proved: what each definition gives beside what was worked by hand.
+-- The worked cases that are marked to be proved, and the raw words of five values: what each definition gives beside what was worked by hand.
 use mathlib.Core.List.{List, [], _∷_, map}
 use Prim.Native.Nat.{ℕ}
 use Rattle.draws.specs.Draw.{drawnFrom}
 use Rattle.matrix.specs.Column.{mdsColumn}
 use Rattle.numbers.specs.Lists.{tab}
 use Rattle.numbers.specs.Modulus.{P}
-use Rattle.tip5.specs.Field.{add}
+use Rattle.tip5.specs.Field.{add, rawOf}
 use Rattle.tip5.specs.Reduced.{reduced}
 use Rattle.tip5.specs.Round.{circulant, lookup, lookupByte}
 use Rattle.tip5.specs.Tables.{rawConstants}
@@ -20,8 +20,10 @@ sixteen w = tab 16 0 (λ k. w)
 
 unfoldable pub table : List Case
 table =
+    -- the raw words of the values 0, 1, 2, 2 ^ 32 and P - 1
+    record { given = map rawOf (0 ∷ 1 ∷ 2 ∷ 4294967296 ∷ 18446744069414584320 ∷ []); worked = 0 ∷ 4294967295 ∷ 8589934590 ∷ 18446744069414584320 ∷ 18446744065119617026 ∷ [] }
     -- lookup table: 0 to 0, 1 to 7, 254 to 248
-    record { given = map lookupByte (0 ∷ 1 ∷ 254 ∷ []); worked = 0 ∷ 7 ∷ 248 ∷ [] }
+    ∷ record { given = map lookupByte (0 ∷ 1 ∷ 254 ∷ []); worked = 0 ∷ 7 ∷ 248 ∷ [] }
     -- a raw word looked up, byte by byte; ONE and raw P - 1 stay
     ∷ record { given = map lookup (0x0100000000000002 ∷ 4294967295 ∷ 18446744069414584320 ∷ []); worked = 0x070000000000001a ∷ 4294967295 ∷ 18446744069414584320 ∷ [] }
     -- the matrix on sixteen raw 1s, on sixteen raw P - 1, and on 1 in word 0 alone
