@@ -55,3 +55,13 @@ pub fn bad(random: &mut Random) -> u64 {
         _ => P + random.below(u64::MAX - P + 1),
     }
 }
+
+/// So many words below p.
+pub fn good_array<const N: usize>(random: &mut Random) -> [u64; N] {
+    std::array::from_fn(|_| good(random))
+}
+
+/// What stands in room for so many words before they are written: anything.
+pub fn room<const N: usize>(random: &mut Random) -> [u64; N] {
+    std::array::from_fn(|_| random.word())
+}

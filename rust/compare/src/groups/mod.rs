@@ -1,9 +1,11 @@
 //! The cases of each call, group by group. A new group is a module with a `makers()` and a line
 //! in `all`.
 
+mod digests;
 mod exports;
 mod field;
 mod inverse;
+mod lists;
 mod permutation;
 mod refusals;
 mod sponge;
@@ -36,6 +38,7 @@ pub fn all() -> Vec<Maker> {
         permutation::makers(),
         inverse::makers(),
         sponge::makers(),
+        digests::makers(),
         exports::makers(),
     ]
     .into_iter()

@@ -1,23 +1,17 @@
-//! The sponge: its starts, chains of absorbs and squeezes, padding on any state, the digests, and
-//! the steps back.
+//! The sponge: its starts, chains of absorbs and squeezes, padding on any state, and the steps back.
 
+use super::lists::each_list;
 use super::permutation::state;
 use super::{Maker, Push, group, refusals};
 use crate::case::Case;
 use cases::{Random, states, words};
-use oracle::{Five, State, Ten, inverse, sponge};
+use oracle::{State, Ten, inverse, sponge};
 
 /// One case in so many is refused.
 const REFUSED: u64 = 8;
 
 /// Steps in a chain.
 const CHAIN: usize = 10;
-
-/// Lists of every length up to this one are hashed.
-const EVERY_LENGTH: usize = 64;
-
-/// The longest list.
-const LONGEST: u64 = 4000;
 
 pub fn makers() -> Vec<Maker> {
     group(
@@ -37,9 +31,6 @@ pub fn makers() -> Vec<Maker> {
             ("probe_absorb", absorbs),
             ("probe_squeeze", squeezes),
             ("probe_pad_and_absorb_all", paddings),
-            ("probe_hash_10", tens),
-            ("probe_hash_pair", pairs),
-            ("probe_hash_varlen", lists),
             ("probe_squeeze_back", squeezes_back),
             ("probe_absorb_back", absorbs_back),
         ],
@@ -47,18 +38,8 @@ pub fn makers() -> Vec<Maker> {
 }
 
 fn start(call: &'static str, want: State, random: &mut Random, push: Push) {
-    let room: State = std::array::from_fn(|_| random.word());
+    let room: State = words::room(random);
     push(Case::new(call).words(&room, &want));
-}
-
-/// Words below p.
-fn good<const N: usize>(random: &mut Random) -> [u64; N] {
-    std::array::from_fn(|_| words::good(random))
-}
-
-/// What stands in room for an answer before the call: anything.
-fn room<const N: usize>(random: &mut Random) -> [u64; N] {
-    std::array::from_fn(|_| random.word())
 }
 
 /// One step that a sponge made: the state before it, the ten that an absorb took in or that a
@@ -81,7 +62,7 @@ fn steps(random: &mut Random, count: usize, mut with: impl FnMut(&mut Random, St
         for _ in 0..CHAIN {
             let absorbs = random.once_in(2);
             let (ten, after) = if absorbs {
-                let ten = good(random);
+                let ten = words::good_array(random);
                 (ten, sponge::absorb(before, ten))
             } else {
                 sponge::squeeze(before)
@@ -104,7 +85,7 @@ fn absorbs(random: &mut Random, count: usize, push: Push) {
     let call = "probe_absorb";
     steps(random, count / 20, |random, step| {
         if random.once_in(REFUSED) {
-            let saved = good(random);
+            let saved = words::good_array(random);
             push(refused_beside(call, random, &saved, true));
         } else if step.absorbs {
             let case = Case::new(call).words(&step.before, &step.after);
@@ -142,7 +123,7 @@ fn refused_beside(call: &'static str, random: &mut Random, ten: &Ten, judged: bo
 fn squeezes(random: &mut Random, count: usize, push: Push) {
     let call = "probe_squeeze";
     steps(random, count / 20, |random, step| {
-        let room = room::<10>(random);
+        let room = words::room::<10>(random);
         if random.once_in(REFUSED) {
             let state = refusals::bad_state(random);
             let case = Case::new(call).kept(&state).words(&room, &[0; 10]);
@@ -152,25 +133,6 @@ fn squeezes(random: &mut Random, count: usize, push: Push) {
             push(case.words(&room, &step.ten));
         }
     });
-}
-
-/// Lists of every small length, then of lengths as chance has them and around multiples of ten.
-fn each_list(random: &mut Random, count: usize, mut with: impl FnMut(&mut Random, Vec<u64>)) {
-    for length in 0..=EVERY_LENGTH {
-        for word in [words::good, |_: &mut Random| 0] {
-            let list = (0..length).map(|_| word(random)).collect();
-            with(random, list);
-        }
-    }
-    for _ in 0..count / 500 {
-        let most = random.pick(&[100, 1000, LONGEST]);
-        let length = match random.below(2) {
-            0 => random.below(most),
-            _ => 10 * random.below(most / 10) + random.below(3),
-        };
-        let list = (0..length).map(|_| words::good(random)).collect();
-        with(random, list);
-    }
 }
 
 fn paddings(random: &mut Random, count: usize, push: Push) {
@@ -191,72 +153,11 @@ fn paddings(random: &mut Random, count: usize, push: Push) {
     });
 }
 
-fn lists(random: &mut Random, count: usize, push: Push) {
-    let call = "probe_hash_varlen";
-    each_list(random, count, |random, mut list| {
-        let room = room::<5>(random);
-        if list.is_empty() || !random.once_in(REFUSED) {
-            let digest = sponge::hash_varlen(&list);
-            push(Case::new(call).kept(&list).words(&room, &digest));
-            return;
-        }
-        refusals::spoil(random, &mut list);
-        push(Case::new(call).kept(&list).words(&room, &[0; 5]).refused(1));
-    });
-}
-
-fn tens(random: &mut Random, count: usize, push: Push) {
-    let call = "probe_hash_10";
-    for _ in 0..count / 20 {
-        let (mut ten, room): (Ten, Five) = (good(random), room(random));
-        if !random.once_in(REFUSED) {
-            let case = Case::new(call).kept(&ten);
-            push(case.words(&room, &sponge::hash_10(ten)));
-            continue;
-        }
-        let (list, refusal) = if random.once_in(2) {
-            (refusals::not_so_many(random, 10), 2)
-        } else {
-            refusals::spoil(random, &mut ten);
-            (ten.to_vec(), 1)
-        };
-        let case = Case::new(call).kept(&list).words(&room, &[0; 5]);
-        push(case.refused(refusal));
-    }
-}
-
-fn pairs(random: &mut Random, count: usize, push: Push) {
-    let call = "probe_hash_pair";
-    for _ in 0..count / 20 {
-        let (mut left, mut right, room): (Five, Five, Five) =
-            (good(random), good(random), room(random));
-        if !random.once_in(REFUSED) {
-            let case = Case::new(call).kept(&left).kept(&right);
-            push(case.words(&room, &sponge::hash_pair(left, right)));
-            continue;
-        }
-        let (left, right, refusal) = match random.below(4) {
-            0 => (refusals::not_so_many(random, 5), right.to_vec(), 2),
-            1 => (left.to_vec(), refusals::not_so_many(random, 5), 2),
-            2 => {
-                refusals::spoil(random, &mut left);
-                (left.to_vec(), right.to_vec(), 1)
-            }
-            _ => {
-                refusals::spoil(random, &mut right);
-                (left.to_vec(), right.to_vec(), 1)
-            }
-        };
-        let case = Case::new(call).kept(&left).kept(&right);
-        push(case.words(&room, &[0; 5]).refused(refusal));
-    }
-}
-
 fn squeezes_back(random: &mut Random, count: usize, push: Push) {
     let call = "probe_squeeze_back";
     steps(random, count / 100, |random, step| {
         // Whatever stands in the ten places is not judged.
-        let places = room::<10>(random);
+        let places = words::room::<10>(random);
         if random.once_in(REFUSED) {
             push(refused_beside(call, random, &places, false));
         } else if !step.absorbs {
@@ -269,7 +170,7 @@ fn squeezes_back(random: &mut Random, count: usize, push: Push) {
 fn absorbs_back(random: &mut Random, count: usize, push: Push) {
     let call = "probe_absorb_back";
     steps(random, count / 100, |random, step| {
-        let saved: Ten = good(random);
+        let saved: Ten = words::good_array(random);
         if random.once_in(REFUSED) {
             push(refused_beside(call, random, &saved, true));
         } else if step.absorbs {
