@@ -1,4 +1,4 @@
--- A loop that fills a list from the front, one entry a turn: none filled, one more, all.
+-- A loop that fills a list from the front, one entry a turn: none filled, one more, all; the same by another rule.
 -- Assumes nothing.
 use mathlib.Core.List.{List}
 use mathlib.Core.Path.{_≡_, sym, _∙_}
@@ -20,3 +20,6 @@ filled-more {n} {f} {r} {out} {v} h lt e =
 
 pub filled-all : {n : ℕ} {f : ℕ → ℕ} {r : ℕ} {out : List ℕ} → Filled n f r out → r ≡ n → out ≡ tab n 0 f
 filled-all {f = f} {out = out} h e = sym (tab-unique out f (h .long) (λ k l. h .front k (omega arith)))
+
+pub filled-same : {n : ℕ} {f g : ℕ → ℕ} {r : ℕ} {out : List ℕ} → Filled n f r out → ((k : ℕ) → k < r → f k ≡ g k) → Filled n g r out
+filled-same h e = record { within = h .within; long = h .long; front = λ k l. h .front k l ∙ e k l }

@@ -40,6 +40,10 @@ powers-below e a = tab-below 4 0 λ k. power-below (getD a k 0) e
 pub powers-words : (e : ℕ) (a : List ℕ) {x : List ℕ} → x ≡ powers e a → Below x
 powers-words e a h = subst⁻¹ Below h (powers-below e a)
 
+pub powers-at : (e : ℕ) (a : List ℕ) {l : List ℕ} → l ≡ powers e a → (i : ℕ) → i < 4 → getD l i 0 ≡ power (getD a i 0) e
+unfolding powers
+powers-at e a h i u = ap (λ (l : List ℕ). getD l i 0) h ∙ getD-tab₀ 4 (λ c. power (getD a c 0) e) i u
+
 -- four words are their own first powers
 pub powers-one : (a : List ℕ) → length a ≡ 4 → Below a → a ≡ powers 1 a
 unfolding powers
@@ -51,12 +55,9 @@ pub powers-raised : (a : List ℕ) (j k n : ℕ) {x y : List ℕ} → x ≡ powe
 unfolding powers
 powers-raised a j k n {x} {y} ex ey =
     tab-same 4 0 λ i low high.
-    ap₂ (λ (v u : ℕ). mul (power v (2 ^ n)) u) (entry j ex i high) (entry k ey i high)
+    ap₂ (λ (v u : ℕ). mul (power v (2 ^ n)) u) (powers-at j a ex i high) (powers-at k a ey i high)
     ∙ ap (λ (v : ℕ). mul v (power (getD a i 0) k)) (power-power (getD a i 0) j (2 ^ n))
     ∙ mul-power (getD a i 0) (j * 2 ^ n) k
-  where
-    entry : (e : ℕ) {l : List ℕ} → l ≡ powers e a → (i : ℕ) → i < 4 → getD l i 0 ≡ power (getD a i 0) e
-    entry e h i u = ap (λ (l : List ℕ). getD l i 0) h ∙ getD-tab₀ 4 (λ c. power (getD a c 0) e) i u
 
 -- a power of powers
 pub powers-powers : (a : List ℕ) (j k : ℕ) → powers k (powers j a) ≡ powers (j * k) a

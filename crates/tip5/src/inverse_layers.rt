@@ -1,16 +1,16 @@
 // The layers of a round undone, on states whose words are below P. Nothing is judged here.
-use crate::b_field_element::BFieldElement;
 use crate::field;
 use crate::layers;
 use crate::seventh_root::seventh_roots;
 ghost use mathlib.Core.Path.{_≡_};
-ghost use Prim.Native.Nat.{ℕ, _%_, _<_};
+ghost use Prim.Native.Nat.{ℕ, _+_, _%_, _<_, _≤_};
 ghost use lib.ListN.{getD};
 ghost use Rattle.numbers.specs.Circulant.{rowSum};
+ghost use Rattle.numbers.specs.Fill.{Filled};
+ghost use Rattle.numbers.specs.Lists.{tab};
 ghost use Rattle.numbers.specs.Modulus.{P};
 ghost use Rattle.tip5.specs.Constants.{invMdsColumn};
-ghost use Rattle.tip5.specs.Element.{elementOf};
-ghost use Rattle.tip5.specs.Inverse.{invLookup, invSboxLayer, subConstants};
+ghost use Rattle.tip5.specs.Inverse.{invSbox, invSboxLayer, subConstants};
 ghost use Rattle.tip5.specs.InverseTables.{invLookupTable, rawInvColumn};
 ghost use Rattle.tip5.specs.Round.{circulant};
 ghost use Rattle.tip5.specs.Tables.{rawConstants};
@@ -59,43 +59,36 @@ pub(crate) fn inv_mds_matrix_mul(column: &[u64; 16], words: [u64; 16]) -> [u64; 
     out
 }
 
-// Words 0 to 3: each byte of the raw word is looked up.
-fn split_and_inv_lookup(table: &[u8; 256], element: BFieldElement) -> BFieldElement
-    requires { ⌜ now table ≡ invLookupTable ⌝ }
-    ensures { λ r. ⌜ r ≡ elementOf (invLookup (element .0)) ⌝ }
+// Words i to i + 3.
+fn four_of(s: [u64; 16], i: usize) -> [u64; 4]
+    requires { ⌜ i ≤ 12 ⌝ }
+    ensures { λ r. ⌜ r ≡ tab 4 0 (λ k. getD s (i + k) 0) ⌝ }
 {
-    let word = element.0;
-    BFieldElement(layers::bytes_looked_up(table, word))
+    [s[i], s[i + 1], s[i + 2], s[i + 3]]
+}
+
+// Where the words before i are done: also words i to i + 3, which are roots.
+fn put_roots(out: [u64; 16], s: [u64; 16], i: usize) -> [u64; 16]
+    requires { ⌜ (4 ≤ i) × (i ≤ 12) × ((k : ℕ) → getD s k 0 < P) ⌝ }
+    requires { ⌜ Filled 16 (λ k. invSbox k (getD s k 0)) i out ⌝ }
+    ensures { λ r. ⌜ Filled 16 (λ k. invSbox k (getD s k 0)) (i + 4) r ⌝ }
+{
+    let roots = seventh_roots(four_of(s, i));
+    let mut next = out;
+    let mut k = 0;
+    while k < 4 {
+        next[i + k] = roots[k];
+        k += 1;
+    }
+    next
 }
 
 pub(crate) fn inv_sbox_layer(table: &[u8; 256], s: [u64; 16]) -> [u64; 16]
-    requires { ⌜ now table ≡ invLookupTable ⌝ }
-    requires { ⌜ ((k : ℕ) → getD s k 0 < P) ⌝ }
+    requires { ⌜ (now table ≡ invLookupTable) × ((k : ℕ) → getD s k 0 < P) ⌝ }
     ensures { λ r. ⌜ r ≡ invSboxLayer s ⌝ }
 {
-    let l0 = split_and_inv_lookup(table, BFieldElement(s[0]));
-    let l1 = split_and_inv_lookup(table, BFieldElement(s[1]));
-    let l2 = split_and_inv_lookup(table, BFieldElement(s[2]));
-    let l3 = split_and_inv_lookup(table, BFieldElement(s[3]));
-    let x = seventh_roots([s[4], s[5], s[6], s[7]]);
-    let y = seventh_roots([s[8], s[9], s[10], s[11]]);
-    let z = seventh_roots([s[12], s[13], s[14], s[15]]);
-    [
-        l0.0,
-        l1.0,
-        l2.0,
-        l3.0,
-        x[0],
-        x[1],
-        x[2],
-        x[3],
-        y[0],
-        y[1],
-        y[2],
-        y[3],
-        z[0],
-        z[1],
-        z[2],
-        z[3],
-    ]
+    let four = layers::lookup_words(table, s);
+    let eight = put_roots(four, s, 4);
+    let twelve = put_roots(eight, s, 8);
+    put_roots(twelve, s, 12)
 }

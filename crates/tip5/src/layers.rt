@@ -8,13 +8,13 @@ ghost use lib.ListN.{getD};
 ghost use Rattle.matrix.specs.Column.{mdsColumn};
 ghost use Rattle.numbers.specs.Circulant.{rowSum};
 ghost use Rattle.numbers.specs.Fill.{Filled};
-ghost use Rattle.numbers.specs.Lists.{tab};
+ghost use Rattle.numbers.specs.Lists.{tab, total};
 ghost use Rattle.numbers.specs.Modulus.{P};
 ghost use Rattle.tip5.specs.Element.{elementOf};
 ghost use Rattle.tip5.specs.Field.{power};
 ghost use Rattle.tip5.specs.Reduced.{reduced};
 ghost use Rattle.tip5.specs.Tables.{lookupTable, rawConstants};
-ghost use Rattle.tip5.specs.Round.{addConstants, bytewise, lookup, lookupByte, sbox, sboxLayer};
+ghost use Rattle.tip5.specs.Round.{addConstants, bytewise, sboxLayer};
 
 fn wide(byte: u8) -> u64
     ensures { λ r. ⌜ (r ≡ byte) × (r < 256) ⌝ }
@@ -30,30 +30,26 @@ fn looked_up(table: &[u8; 256], byte: u64) -> u64
     wide(table[byte as usize])
 }
 
-// A word with each of its eight bytes looked up in a table.
-pub(crate) fn bytes_looked_up(table: &[u8; 256], word: u64) -> u64
-    ensures { λ r. ⌜ r ≡ bytewise (λ b. getD (now (table .entry)) b 0) word ⌝ }
+// Four bytes looked up in a table.
+fn four_looked_up(table: &[u8; 256], half: u64) -> u64
+    requires { ⌜ half < 2 ^ 32 ⌝ }
+    ensures { λ r. ⌜ (r ≡ total 4 0 (λ k. getD (now (table .entry)) (half / 256 ^ k % 256) 0 * 256 ^ k)) × (r < 2 ^ 32) ⌝ }
 {
-    let b0 = looked_up(table, word % 256);
-    let b1 = looked_up(table, word / 256 % 256);
-    let b2 = looked_up(table, word / 65536 % 256);
-    let b3 = looked_up(table, word / 16777216 % 256);
-    let b4 = looked_up(table, word / 4294967296 % 256);
-    let b5 = looked_up(table, word / 1099511627776 % 256);
-    let b6 = looked_up(table, word / 281474976710656 % 256);
-    let b7 = looked_up(table, word / 72057594037927936);
-    let low = b0 + b1 * 256 + b2 * 65536 + b3 * 16777216;
-    let high = b4 + b5 * 256 + b6 * 65536 + b7 * 16777216;
-    low + high * 4294967296
+    let b0 = looked_up(table, half % 256);
+    let b1 = looked_up(table, half / 256 % 256);
+    let b2 = looked_up(table, half / 65536 % 256);
+    let b3 = looked_up(table, half / 16777216);
+    b0 + b1 * 256 + b2 * 65536 + b3 * 16777216
 }
 
-// Words 0 to 3: each byte of the raw word is looked up.
+// Each byte of the raw word is looked up, in the table of the one way or of the other.
 fn split_and_lookup(table: &[u8; 256], element: BFieldElement) -> BFieldElement
-    requires { ⌜ now table ≡ lookupTable ⌝ }
-    ensures { λ r. ⌜ r ≡ elementOf (lookup (element .0)) ⌝ }
+    ensures { λ r. ⌜ r ≡ elementOf (bytewise (λ b. getD (now (table .entry)) b 0) (element .0)) ⌝ }
 {
     let word = element.0;
-    BFieldElement(bytes_looked_up(table, word))
+    let low = four_looked_up(table, word % 4294967296);
+    let high = four_looked_up(table, word / 4294967296);
+    BFieldElement(low + high * 4294967296)
 }
 
 // Words 4 to 15.
@@ -67,9 +63,8 @@ fn seventh_power(a: u64) -> u64
 }
 
 // Words 0 to 3 looked up; the others are left to the power map.
-fn lookup_words(table: &[u8; 256], s: [u64; 16]) -> [u64; 16]
-    requires { ⌜ now table ≡ lookupTable ⌝ }
-    ensures { λ r. ⌜ Filled 16 (λ k. sbox k (getD s k 0)) 4 r ⌝ }
+pub(crate) fn lookup_words(table: &[u8; 256], s: [u64; 16]) -> [u64; 16]
+    ensures { λ r. ⌜ Filled 16 (λ k. bytewise (λ b. getD (now (table .entry)) b 0) (getD s k 0)) 4 r ⌝ }
 {
     let mut out = s;
     let mut i = 0;

@@ -1,6 +1,6 @@
 -- `layers::lookup_words` meets its contract.
 -- Assumes nothing.
-use mathlib.Core.Path.{_≡_, ap, subst, sym, _∙_}
+use mathlib.Core.Path.{_≡_, ap, subst}
 use Prim.Native.Nat.{ℕ, _+_, _-_, _≤_, _<_}
 use native.Mathlib.Omega.{arith}
 use borrow.Author.Needs.{needs}
@@ -8,13 +8,12 @@ use lib.ListN.{getD}
 use Rattle.numbers.specs.Fill.{Filled}
 use Rattle.numbers.proofs.Fill.{filled-none, filled-more}
 use Rattle.tip5.specs.declared.b_field_element.BFieldElement.{BFieldElement}
-use Rattle.tip5.specs.Round.{sbox}
-use Rattle.tip5.proofs.SboxLaws.{sbox-lookup}
+use Rattle.tip5.specs.Round.{bytewise}
 use Rattle.tip5.proofs.layers.lookup_words.Statement.{statement}
 use Rattle.tip5.proofs.layers.lookup_words.Tie as tie
 
 abbrev Inv-loop : tie.InvT-loop
-Inv-loop table s out₀ i₀ out i = (i ≤ 4) × Filled 16 (λ k. sbox k (getD s k 0)) i out
+Inv-loop table s out₀ i₀ out i = (i ≤ 4) × Filled 16 (λ k. bytewise (λ b. getD table b 0) (getD s k 0)) i out
 
 abbrev μ-loop : tie.MeasureT-loop
 μ-loop table s out₀ i₀ out i = 4 - i
@@ -29,7 +28,7 @@ array-read-t12 : tie.Need-array-read-t12 Inv-loop μ-loop
 array-read-t12 c = omega arith
 
 split-and-lookup-requires : tie.Need-split-and-lookup-requires Inv-loop μ-loop
-split-and-lookup-requires c κs = c .before .before .pre
+split-and-lookup-requires c κs = search needs
 
 mul-out : tie.Need-mul-out Inv-loop μ-loop
 mul-out c = omega arith
@@ -46,12 +45,12 @@ loop-less c = omega arith
 loop-again : tie.Need-loop-again Inv-loop μ-loop
 loop-again c =
     let l = c .before .before .loop in
-    (omega arith, filled-more (l .inv .1) (omega arith) (ap (λ (e : BFieldElement). e .0) (c .split-and-lookup .ensures) ∙ sym (sbox-lookup _ (c .before .loop-test .taken))))
+    (omega arith, filled-more (l .inv .1) (omega arith) (ap (λ (e : BFieldElement). e .0) (c .split-and-lookup .ensures)))
 
 returns : tie.Need-returns Inv-loop μ-loop
 returns c =
     let all : c .before .loop .i ≡ 4 = omega arith in
-    subst (λ (r : ℕ). Filled 16 (λ k. sbox k (getD (c .before .before .args .t2) k 0)) r (c .before .loop .out)) all (c .before .loop .inv .1)
+    subst (λ (r : ℕ). Filled 16 (λ k. bytewise (λ b. getD (c .before .before .args .table .now) b 0) (getD (c .before .before .args .t2) k 0)) r (c .before .loop .out)) all (c .before .loop .inv .1)
 
 pub lookup-words-spec : {M : Type 1} → statement M
 lookup-words-spec =

@@ -3,10 +3,11 @@
 use mathlib.Core.Path.{sym, _∙_}
 use Prim.Native.Nat.{ℕ, _+_, _-_, _≤_, _<_}
 use native.Mathlib.Omega.{arith}
+use borrow.Author.Needs.{needs}
 use lib.ListN.{getD}
 use Rattle.numbers.specs.Fill.{Filled}
 use Rattle.numbers.proofs.Fill.{filled-more, filled-all}
-use Rattle.tip5.proofs.SboxLaws.{sbox-power}
+use Rattle.tip5.proofs.SboxLaws.{sbox-looked-up, sbox-power}
 use Rattle.tip5.specs.Round.{sbox, sboxLayer}
 use Rattle.tip5.proofs.layers.sbox_layer.Statement.{statement}
 use Rattle.tip5.proofs.layers.sbox_layer.Tie as tie
@@ -18,10 +19,10 @@ abbrev μ-loop : tie.MeasureT-loop
 μ-loop table s out₀ i₀ out i = 16 - i
 
 lookup-words-requires : tie.Need-lookup-words-requires Inv-loop μ-loop
-lookup-words-requires c κs = c .pre .0
+lookup-words-requires c κs = search needs
 
 loop-holds : tie.Need-loop-holds Inv-loop μ-loop
-loop-holds c = (omega arith, c .lookup-words .ensures)
+loop-holds c = (omega arith, sbox-looked-up (c .before .args .t2) (c .before .pre .0) (c .lookup-words .ensures))
 
 mul-seventh-power : tie.Need-mul-seventh-power Inv-loop μ-loop
 mul-seventh-power c = omega arith
