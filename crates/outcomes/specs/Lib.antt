@@ -1,0 +1,2 @@
+-- What it is to have one outcome.
+pub mod Outcome

@@ -1,0 +1,1 @@
+// No code: that no contract of a public call leaves a second outcome.
