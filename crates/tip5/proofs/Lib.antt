@@ -14,6 +14,7 @@ pub mod LayersUndone
 pub mod LentTables
 pub mod LookupLaws
 pub mod MendedLaws
+pub mod MovesLaws
 pub mod PowersLaws
 pub mod ReducedLaws
 pub mod RoundLaws

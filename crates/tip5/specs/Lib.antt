@@ -5,6 +5,7 @@ pub mod Field
 pub mod Inverse
 pub mod InverseTables
 pub mod Judge
+pub mod Moves
 pub mod Permutation
 pub mod Powers
 pub mod Reduced

@@ -2,11 +2,12 @@
 // before anything moves.
 use crate::inverse_layers;
 use crate::inverse_tables;
-use crate::judge::judge_words;
 use crate::permutation::StateAnswer;
-use crate::permutation::put;
-use crate::permutation::sixteen;
-use crate::refusal;
+use crate::permutation::Way;
+use crate::permutation::judged;
+use crate::permutation::judged_round;
+use crate::permutation::judged_slice;
+use crate::permutation::judged_slice_round;
 use crate::tables;
 ghost use mathlib.Core.Path.{_≡_};
 ghost use Prim.Native.Nat.{ℕ, _<_, _≤_};
@@ -15,6 +16,7 @@ ghost use Rattle.numbers.specs.Modulus.{P};
 ghost use Rattle.tip5.specs.Inverse.{invOneRound, invPermutation, invPermuted, invRound};
 ghost use Rattle.tip5.specs.InverseTables.{invLookupTable, rawInvColumn};
 ghost use Rattle.tip5.specs.Judge.{unless};
+ghost use Rattle.tip5.specs.Moves.{moved};
 ghost use Rattle.tip5.specs.Permutation.{roundSliceRefusal, sliceRefusal};
 ghost use Rattle.tip5.specs.Tables.{rawConstants};
 
@@ -52,9 +54,9 @@ fn five_inv_rounds_with(
 }
 
 // Round 0 to 4 undone or, for 5, all five. The tables are laid out here and nowhere else.
-fn inv_rounds_of(which: usize, state: [u64; 16]) -> [u64; 16]
+pub(crate) fn inv_rounds_of(which: usize, state: [u64; 16]) -> [u64; 16]
     requires { ⌜ (which ≤ 5) × ((k : ℕ) → getD state k 0 < P) ⌝ }
-    ensures { λ r. ⌜ (which < 5 → r ≡ invRound which state) × (which ≡ 5 → r ≡ invPermuted state) ⌝ }
+    ensures { λ r. ⌜ r ≡ moved Way.Back which state ⌝ }
 {
     let table = inverse_tables::INV_LOOKUP_TABLE;
     let column = inverse_tables::INV_MDS_MATRIX_FIRST_COLUMN;
@@ -69,34 +71,14 @@ fn inv_rounds_of(which: usize, state: [u64; 16]) -> [u64; 16]
 pub fn inv_permutation(state: [u64; 16]) -> StateAnswer
     ensures { λ r. ⌜ r ≡ invPermutation state ⌝ }
 {
-    let refusal = judge_words(&state);
-    if refusal != refusal::NONE {
-        return StateAnswer { refusal, state };
-    }
-    StateAnswer {
-        refusal,
-        state: inv_rounds_of(5, state),
-    }
+    judged(Way::Back, 5, state)
 }
 
 // The state before one round, 0 to 4.
 pub fn inv_round(round: usize, state: [u64; 16]) -> StateAnswer
     ensures { λ r. ⌜ r ≡ invOneRound round state ⌝ }
 {
-    if 5 <= round {
-        return StateAnswer {
-            refusal: refusal::NO_SUCH_ROUND,
-            state,
-        };
-    }
-    let refusal = judge_words(&state);
-    if refusal != refusal::NONE {
-        return StateAnswer { refusal, state };
-    }
-    StateAnswer {
-        refusal,
-        state: inv_rounds_of(round, state),
-    }
+    judged_round(Way::Back, round, state)
 }
 
 // The inverse permutation of a lent slice in place.
@@ -104,13 +86,7 @@ pub fn inv_permute(state: &mut [u64]) -> u8
     ensures { λ r. ⌜ r ≡ sliceRefusal (now (state .entry)) ⌝ }
     ensures { λ r. ⌜ now (state .exit) ≡ unless (sliceRefusal (now (state .entry))) (invPermuted (now (state .entry))) (now (state .entry)) ⌝ }
 {
-    if state.len() != 16 {
-        return refusal::WRONG_LENGTH;
-    }
-    let moved = inv_permutation(sixteen(state));
-    let next = moved.state;
-    put(state, next);
-    moved.refusal
+    judged_slice(Way::Back, 5, state)
 }
 
 // One round undone in a lent slice.
@@ -118,14 +94,5 @@ pub fn inv_permute_round(round: usize, state: &mut [u64]) -> u8
     ensures { λ r. ⌜ r ≡ roundSliceRefusal round (now (state .entry)) ⌝ }
     ensures { λ r. ⌜ now (state .exit) ≡ unless (roundSliceRefusal round (now (state .entry))) (invRound round (now (state .entry))) (now (state .entry)) ⌝ }
 {
-    if 5 <= round {
-        return refusal::NO_SUCH_ROUND;
-    }
-    if state.len() != 16 {
-        return refusal::WRONG_LENGTH;
-    }
-    let moved = inv_round(round, sixteen(state));
-    let next = moved.state;
-    put(state, next);
-    moved.refusal
+    judged_slice_round(Way::Back, round, state)
 }

@@ -1,4 +1,5 @@
 // The permutation by its fast rounds. Each public call judges its words before anything moves.
+use crate::inverse::inv_rounds_of;
 use crate::judge::judge_words;
 use crate::layers;
 use crate::refusal;
@@ -8,6 +9,8 @@ ghost use Prim.Native.Nat.{ℕ, _+_, _-_, _/_, _%_, _<_, _≤_};
 ghost use lib.ListN.{getD, length};
 ghost use Rattle.numbers.specs.Modulus.{P};
 ghost use Rattle.tip5.specs.Judge.{unless};
+ghost use Rattle.tip5.specs.Moves.{movedAnswer, roundAnswer, roundOf};
+ghost use Rattle.tip5.specs.Moves as Moves;
 ghost use Rattle.tip5.specs.Permutation.{
   oneRound,
   roundSliceRefusal,
@@ -23,6 +26,12 @@ ghost use Rattle.tip5.specs.Tables.{lookupTable, rawConstants};
 pub struct StateAnswer {
     pub refusal: u8,
     pub state: [u64; 16],
+}
+
+// The permutation and its rounds, or the way back.
+pub(crate) enum Way {
+    Forth,
+    Back,
 }
 
 // A refusal or 0, and six states one after another, all zero where the call is refused.
@@ -56,7 +65,7 @@ fn five_rounds_with(table: &[u8; 256], constants: &[u64; 80], state: [u64; 16]) 
 // Round 0 to 4 or, for 5, all five. The tables are laid out here and nowhere else.
 fn rounds_of(which: usize, state: [u64; 16]) -> [u64; 16]
     requires { ⌜ (which ≤ 5) × ((k : ℕ) → getD state k 0 < P) ⌝ }
-    ensures { λ r. ⌜ (which < 5 → r ≡ Round.round which state) × (which ≡ 5 → r ≡ permuted state) ⌝ }
+    ensures { λ r. ⌜ r ≡ Moves.moved Way.Forth which state ⌝ }
 {
     let table = tables::LOOKUP_TABLE;
     let constants = tables::ROUND_CONSTANTS;
@@ -66,9 +75,20 @@ fn rounds_of(which: usize, state: [u64; 16]) -> [u64; 16]
     round_with(&table, &constants, which, state)
 }
 
-// The state after five rounds.
-pub fn permutation(state: [u64; 16]) -> StateAnswer
-    ensures { λ r. ⌜ r ≡ Permutation.permutation state ⌝ }
+fn moved(way: Way, which: usize, state: [u64; 16]) -> [u64; 16]
+    requires { ⌜ (which ≤ 5) × ((k : ℕ) → getD state k 0 < P) ⌝ }
+    ensures { λ r. ⌜ r ≡ Moves.moved way which state ⌝ }
+{
+    match way {
+        Way::Forth => rounds_of(which, state),
+        Way::Back => inv_rounds_of(which, state),
+    }
+}
+
+// The same once the words are judged.
+pub(crate) fn judged(way: Way, which: usize, state: [u64; 16]) -> StateAnswer
+    requires { ⌜ which ≤ 5 ⌝ }
+    ensures { λ r. ⌜ r ≡ movedAnswer way which state ⌝ }
 {
     let refusal = judge_words(&state);
     if refusal != refusal::NONE {
@@ -76,13 +96,13 @@ pub fn permutation(state: [u64; 16]) -> StateAnswer
     }
     StateAnswer {
         refusal,
-        state: rounds_of(5, state),
+        state: moved(way, which, state),
     }
 }
 
-// The state after one round, 0 to 4.
-pub fn round(round: usize, state: [u64; 16]) -> StateAnswer
-    ensures { λ r. ⌜ r ≡ oneRound round state ⌝ }
+// One round, where there is such a round.
+pub(crate) fn judged_round(way: Way, round: usize, state: [u64; 16]) -> StateAnswer
+    ensures { λ r. ⌜ r ≡ roundAnswer way round state ⌝ }
 {
     if 5 <= round {
         return StateAnswer {
@@ -90,14 +110,21 @@ pub fn round(round: usize, state: [u64; 16]) -> StateAnswer
             state,
         };
     }
-    let refusal = judge_words(&state);
-    if refusal != refusal::NONE {
-        return StateAnswer { refusal, state };
-    }
-    StateAnswer {
-        refusal,
-        state: rounds_of(round, state),
-    }
+    judged(way, round, state)
+}
+
+// The state after five rounds.
+pub fn permutation(state: [u64; 16]) -> StateAnswer
+    ensures { λ r. ⌜ r ≡ Permutation.permutation state ⌝ }
+{
+    judged(Way::Forth, 5, state)
+}
+
+// The state after one round, 0 to 4.
+pub fn round(round: usize, state: [u64; 16]) -> StateAnswer
+    ensures { λ r. ⌜ r ≡ oneRound round state ⌝ }
+{
+    judged_round(Way::Forth, round, state)
 }
 
 // The state as it is or, where word k of the trace is the first of a later state, after one round
@@ -173,18 +200,37 @@ pub(crate) fn put(words: &mut [u64], state: [u64; 16])
     }
 }
 
+// Round 0 to 4 or, for 5, all five, of a lent slice in place.
+pub(crate) fn judged_slice(way: Way, which: usize, state: &mut [u64]) -> u8
+    requires { ⌜ which ≤ 5 ⌝ }
+    ensures { λ r. ⌜ r ≡ sliceRefusal (now (state .entry)) ⌝ }
+    ensures { λ r. ⌜ now (state .exit) ≡ unless (sliceRefusal (now (state .entry))) (Moves.moved way which (now (state .entry))) (now (state .entry)) ⌝ }
+{
+    if state.len() != 16 {
+        return refusal::WRONG_LENGTH;
+    }
+    let answer = judged(way, which, sixteen(state));
+    let next = answer.state;
+    put(state, next);
+    answer.refusal
+}
+
+pub(crate) fn judged_slice_round(way: Way, round: usize, state: &mut [u64]) -> u8
+    ensures { λ r. ⌜ r ≡ roundSliceRefusal round (now (state .entry)) ⌝ }
+    ensures { λ r. ⌜ now (state .exit) ≡ unless (roundSliceRefusal round (now (state .entry))) (roundOf way round (now (state .entry))) (now (state .entry)) ⌝ }
+{
+    if 5 <= round {
+        return refusal::NO_SUCH_ROUND;
+    }
+    judged_slice(way, round, state)
+}
+
 // The permutation of a lent slice in place.
 pub fn permute(state: &mut [u64]) -> u8
     ensures { λ r. ⌜ r ≡ sliceRefusal (now (state .entry)) ⌝ }
     ensures { λ r. ⌜ now (state .exit) ≡ unless (sliceRefusal (now (state .entry))) (permuted (now (state .entry))) (now (state .entry)) ⌝ }
 {
-    if state.len() != 16 {
-        return refusal::WRONG_LENGTH;
-    }
-    let moved = permutation(sixteen(state));
-    let next = moved.state;
-    put(state, next);
-    moved.refusal
+    judged_slice(Way::Forth, 5, state)
 }
 
 // One round of a lent slice in place.
@@ -192,14 +238,5 @@ pub fn permute_round(round: usize, state: &mut [u64]) -> u8
     ensures { λ r. ⌜ r ≡ roundSliceRefusal round (now (state .entry)) ⌝ }
     ensures { λ r. ⌜ now (state .exit) ≡ unless (roundSliceRefusal round (now (state .entry))) (Round.round round (now (state .entry))) (now (state .entry)) ⌝ }
 {
-    if 5 <= round {
-        return refusal::NO_SUCH_ROUND;
-    }
-    if state.len() != 16 {
-        return refusal::WRONG_LENGTH;
-    }
-    let moved = self::round(round, sixteen(state));
-    let next = moved.state;
-    put(state, next);
-    moved.refusal
+    judged_slice_round(Way::Forth, round, state)
 }

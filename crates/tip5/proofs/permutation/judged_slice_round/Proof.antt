@@ -1,0 +1,33 @@
+-- `permutation::judged_slice_round` meets its contract.
+-- Assumes nothing.
+use mathlib.Core.List.{[], _∷_}
+use mathlib.Core.Path.{sym, _∙_}
+use native.Mathlib.Nat.{le-of-lt}
+use borrow.Author.Needs.{needs}
+use Rattle.tip5.specs.Moves.{roundOf}
+use Rattle.tip5.specs.Permutation.{sliceRefusal}
+use Rattle.tip5.proofs.AnswerLaws.{in-place-refused, round-accepted, round-refused}
+use Rattle.tip5.proofs.MovesLaws.{slice-round}
+use Rattle.tip5.proofs.permutation.judged_slice_round.Statement.{statement}
+use Rattle.tip5.proofs.permutation.judged_slice_round.Tie as tie
+
+returns : tie.Need-returns
+returns c =
+    let a = c .before .before .args in
+    let s = a .state .now in
+    in-place-refused (roundOf (a .way) (a .round) s) s (round-refused (sliceRefusal s ∷ []) (c .if1 .taken))
+
+judged-slice-requires : tie.Need-judged-slice-requires
+judged-slice-requires c κs = le-of-lt (c .before .if1 .left)
+
+same-length : tie.Need-same-length
+same-length c = search needs
+
+returns-2 : tie.Need-returns-2
+returns-2 c =
+    let tested = c .before .before .before .before in
+    let a = tested .before .before .args in
+    slice-round (a .way) (a .state .now) (tested .if1 .left) (c .before .before .judged-slice .ensures)
+
+pub judged-slice-round-spec : {M : Type 1} → statement M
+judged-slice-round-spec = tie.close (tie.spec returns judged-slice-requires same-length returns-2)
