@@ -3,7 +3,6 @@
  * not be touched.
  */
 #include <stdlib.h>
-#include <unistd.h>
 #include <valgrind/memcheck.h>
 
 /* Room for an array. It is never given back, so that no other array comes to lie there. */
@@ -13,9 +12,13 @@ void *watched_array(size_t size) {
     return array;
 }
 
-/* As `read`; at the end of the input, what was left of the buffer is no part of the sheet. */
-ssize_t watched_read(int file, void *to, size_t size) {
-    ssize_t got = read(file, to, size);
-    if (got <= 0) VALGRIND_MAKE_MEM_NOACCESS(to, size);
-    return got;
+/* A lent slice, as the compiler passes it. */
+struct slice {
+    unsigned char *bytes;
+    size_t length;
+};
+
+/* After so many bytes of input the rest of the buffer is no part of the sheet. */
+void watched_end(struct slice *buffer, size_t count) {
+    VALGRIND_MAKE_MEM_NOACCESS(buffer->bytes + count, buffer->length - count);
 }
