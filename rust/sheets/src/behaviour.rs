@@ -3,7 +3,7 @@
 //! write where there is somewhere to write.
 
 use crate::kinds::{digest_of, draw_of, values};
-use crate::program::{Program, Ran, feed, watched};
+use crate::program::{Program, Ran, feed, shown, watched};
 use crate::reading::{self, Header};
 use cases::Random;
 use oracle::{field, sponge};
@@ -77,7 +77,7 @@ fn wrote(ran: io::Result<Ran>, line: &str) -> Verdict {
     if ran.wrote(line) {
         return Ok(());
     }
-    Err(format!("wanted {line:?}, got {}", ran.description()))
+    Err(format!("wanted {}, got {}", shown(line), ran.description()))
 }
 
 fn line(program: &Program, sheet: &[u8], line: &str) -> Verdict {
@@ -196,10 +196,8 @@ fn same_line(got: &[u8], sheet: &[u8]) -> Verdict {
     if got == wanted.as_bytes() {
         return Ok(());
     }
-    Err(format!(
-        "wanted {wanted:?}, got {:?}",
-        String::from_utf8_lossy(got)
-    ))
+    let got = String::from_utf8_lossy(got);
+    Err(format!("wanted {}, got {}", shown(&wanted), shown(&got)))
 }
 
 fn to_file(program: &Program) -> Verdict {

@@ -2,7 +2,7 @@
 
 use crate::kinds::{KINDS, Kind};
 use crate::options::Options;
-use crate::program::Ran;
+use crate::program::{Ran, shown};
 use crate::reading::{self, OUTCOMES};
 use crate::starter::Starter;
 use cases::Random;
@@ -225,12 +225,12 @@ impl Tally {
     /// The smallest sheet that differs, and both lines.
     fn print_smallest(&self) {
         let Some(it) = &self.smallest else { return };
-        let shown = it.sheet.len().min(256);
-        let hex: Vec<String> = it.sheet[..shown]
+        let front = it.sheet.len().min(256);
+        let hex: Vec<String> = it.sheet[..front]
             .iter()
             .map(|byte| format!("{byte:02x}"))
             .collect();
-        let rest = if shown < it.sheet.len() { " .." } else { "" };
+        let rest = if front < it.sheet.len() { " .." } else { "" };
         println!(
             "the smallest that differs: case {}, {}, {} bytes",
             it.case,
@@ -238,7 +238,7 @@ impl Tally {
             it.sheet.len()
         );
         println!("  {}{rest}", hex.join(" "));
-        println!("  wanted: {:?}", format!("{}\n", it.wanted));
+        println!("  wanted: {}", shown(&format!("{}\n", it.wanted)));
         println!("  got:    {}", it.got);
         match std::fs::write(KEPT, &it.sheet) {
             Ok(()) => println!("  the whole sheet is in {KEPT}"),

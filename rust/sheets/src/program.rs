@@ -79,6 +79,14 @@ pub fn watched(
     Ok(Ran { status, writes })
 }
 
+/// A text in quotation marks. Of a long one, its front.
+pub fn shown(text: &str) -> String {
+    match text.char_indices().nth(300) {
+        None => format!("{text:?}"),
+        Some((end, _)) => format!("{:?} .. ({} bytes)", &text[..end], text.len()),
+    }
+}
+
 impl Ran {
     /// Whether it ended as it should and wrote this line with one write, and nothing else.
     pub fn wrote(&self, line: &str) -> bool {
@@ -94,7 +102,7 @@ impl Ran {
         let writes: Vec<String> = self
             .writes
             .iter()
-            .map(|write| format!("{:?}", String::from_utf8_lossy(write)))
+            .map(|write| shown(&String::from_utf8_lossy(write)))
             .collect();
         let writes = match writes.len() {
             0 => "nothing".to_string(),
