@@ -2,6 +2,7 @@
 //! what its sheets must come to, where all come to the same; the reading is held to that too.
 
 use cases::{Random, words};
+use oracle::field::P;
 
 /// The most elements, indices and squeezes that a sheet may name.
 const MOST_ELEMENTS: u64 = 4096;
@@ -247,7 +248,8 @@ fn spoilt(random: &mut Random, mut sheet: Sheet) -> Sheet {
     for _ in 0..1 + random.below(2) {
         let any = random.below(last as u64 + 1) as usize;
         let at = random.pick(&[0, last, any]);
-        sheet.values[at] = words::bad(random);
+        let bad = words::bad(random);
+        sheet.values[at] = random.pick(&[P, P + 1, u64::MAX, bad]);
     }
     sheet
 }
