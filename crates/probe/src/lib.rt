@@ -4,6 +4,8 @@
 pub mod drawing;
 pub mod field;
 pub mod hashing;
+pub mod in_place;
 pub mod inverse;
+mod lending;
 pub mod permutation;
 pub mod tables;
