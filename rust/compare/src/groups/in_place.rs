@@ -19,7 +19,8 @@ const MOST: u64 = 25;
 /// A call of a chain, made on the record.
 type Move = fn(&mut Random, &mut Record, Push);
 
-/// The chains of each call begin with it and go on with any.
+/// The chains of a call begin with it, those of a step back with the step that it undoes. They go on
+/// with any call.
 pub fn makers() -> Vec<Maker> {
     group(
         "in_place",
@@ -145,10 +146,11 @@ fn draw(random: &mut Random, record: &mut Record, push: Push) {
     let few = random.below(4);
     let allowance = random.pick(&[few, u64::MAX]);
     push(draws::case(call, record.state, bound, allowance, &room));
-    let squeezes = draws::drawn(record.state, bound, allowance, room.len()).squeezes;
-    for _ in 0..squeezes {
+    let drawn = draws::drawn(record.state, bound, allowance, room.len());
+    for _ in 0..drawn.squeezes {
         record.squeeze();
     }
+    assert_eq!(record.state, drawn.state, "the steps of a draw");
 }
 
 /// The step back over a step: beside an absorb the words that it overwrote, beside a squeeze any.

@@ -52,13 +52,16 @@ impl Table {
         }
     }
 
-    /// The digests of the source.
+    /// The digests of the source. It can't be lent more columns than there is room for in memory; a
+    /// table with so many has no rows.
     fn digests(&self) -> Vec<u64> {
-        if self.words.is_empty() {
-            return vec![]; // of as many columns as a word says
+        if self.columns > MOST {
+            assert_eq!(self.rows, 0, "an accepted table is small or has no rows");
+            return vec![];
         }
-        let size = self.rows * self.width;
-        let columns: Vec<&[u64]> = self.words.chunks(size as usize).collect();
+        let size = self.words.len() / self.columns.max(1) as usize;
+        let column = |c: u64| &self.words[c as usize * size..][..size];
+        let columns: Vec<&[u64]> = (0..self.columns).map(column).collect();
         match self.width {
             1 => rows::hash_rows_of_columns(&columns).concat(),
             _ => rows::hash_rows_of_wide_columns(&columns).concat(),
