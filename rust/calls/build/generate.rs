@@ -92,35 +92,13 @@ pub fn c_calls(calls: &[Call]) -> String {
     let mut shapes = String::new();
     let mut arms = String::new();
     for (index, call) in calls.iter().enumerate() {
-        let mut types = vec![];
-        let mut values = vec![];
-        let mut shape = String::new();
-        for (i, param) in call.params.iter().enumerate() {
-            match param {
-                Param::Number(kind) => {
-                    types.push(kind.clone());
-                    values.push(format!("args[{i}].word"));
-                    shape += "0, ";
-                }
-                Param::Array { item, .. } => {
-                    types.push(format!("{item} *"));
-                    values.push(format!("args[{i}].data"));
-                    shape += &format!("sizeof({item}), ");
-                }
-                Param::Slice { item, .. } => {
-                    types.push(format!("{item} *"));
-                    types.push("size_t".to_string());
-                    values.push(format!("args[{i}].data"));
-                    values.push(format!("args[{i}].length"));
-                    shape += &format!("sizeof({item}), ");
-                }
-            }
-        }
-        let (name, count) = (&call.name, call.params.len());
-        shapes += &format!("    {{{count}, {{{shape}}}}},\n");
+        let sizes: Vec<_> = call.params.iter().map(c_size).collect();
+        shapes += &format!("    {{{}, {{{}}}}},\n", sizes.len(), sizes.join(", "));
         if call.present {
-            declared += &format!("uint32_t {name}({});\n", types.join(", "));
-            arms += &format!("    case {index}: return {name}({});\n", values.join(", "));
+            let (types, values): (Vec<_>, Vec<_>) = c_params(call).into_iter().unzip();
+            let (name, types, values) = (&call.name, types.join(", "), values.join(", "));
+            declared += &format!("uint32_t {name}({types});\n");
+            arms += &format!("    case {index}: return {name}({values});\n");
         }
     }
     format!(
@@ -128,4 +106,25 @@ pub fn c_calls(calls: &[Call]) -> String {
          static uint32_t call(uint64_t index, struct raw *args) {{\n    \
          switch (index) {{\n{arms}    default: __builtin_trap();\n    }}\n}}\n"
     )
+}
+
+/// The size of an item of a parameter, 0 for a number, as C.
+fn c_size(param: &Param) -> String {
+    match param {
+        Param::Number(_) => "0".to_string(),
+        Param::Array { item, .. } | Param::Slice { item, .. } => format!("sizeof({item})"),
+    }
+}
+
+/// The parameters of a function: the type of each, and its value out of `args`.
+fn c_params(call: &Call) -> Vec<(String, String)> {
+    let of_param = |(i, param): (usize, &Param)| match param {
+        Param::Number(kind) => vec![(kind.clone(), format!("args[{i}].word"))],
+        Param::Array { item, .. } => vec![(format!("{item} *"), format!("args[{i}].data"))],
+        Param::Slice { item, .. } => vec![
+            (format!("{item} *"), format!("args[{i}].data")),
+            ("size_t".to_string(), format!("args[{i}].length")),
+        ],
+    };
+    call.params.iter().enumerate().flat_map(of_param).collect()
 }
