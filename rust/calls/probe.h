@@ -42,3 +42,22 @@ uint32_t probe_hash_varlen(const uint64_t *input, size_t n, uint64_t digest[5]);
 /* One step back, over a squeeze or an absorb. */
 uint32_t probe_squeeze_back(uint64_t state[16], const uint64_t *places, size_t n);
 uint32_t probe_absorb_back(uint64_t state[16], const uint64_t *saved, size_t n);
+
+/* The same on a record that is lent: each wrapper makes one of the sixteen words and puts them back. */
+uint32_t probe_absorb_in_place(uint64_t state[16], const uint64_t *ten, size_t n);
+uint32_t probe_squeeze_in_place(uint64_t state[16], uint64_t ten[10]);
+uint32_t probe_pad_and_absorb_all_in_place(uint64_t state[16], const uint64_t *input, size_t n);
+uint32_t probe_squeeze_back_in_place(uint64_t state[16], const uint64_t *places, size_t n);
+uint32_t probe_absorb_back_in_place(uint64_t state[16], const uint64_t *saved, size_t n);
+
+/* The digests of a table's rows, five words each, and a column's view: its number of rows, and a
+ * row's word. A refused call leaves the digests as they were, and 0 in the place of a number. */
+uint32_t probe_hash_rows_of_columns(const uint64_t *words, size_t n, size_t columns, size_t rows, size_t width, uint64_t *digests, size_t m);
+uint32_t probe_row_count(const uint64_t *words, size_t n, size_t stride, size_t offset, uint64_t count[1]);
+uint32_t probe_column_rows(const uint64_t *words, size_t n, size_t stride, size_t offset, uint64_t count[1]);
+uint32_t probe_entry(const uint64_t *words, size_t n, size_t stride, size_t offset, size_t row, uint64_t word[1]);
+uint32_t probe_column_entry(const uint64_t *words, size_t n, size_t stride, size_t offset, size_t row, uint64_t word[1]);
+
+/* A draw of as many indices as the slice holds, by value and on a record that is lent. */
+uint32_t probe_sample_indices(uint64_t state[16], uint32_t bound, uint32_t *indices, size_t n, uint64_t allowance, uint64_t found[1], uint64_t squeezes[1]);
+uint32_t probe_sample_indices_in_place(uint64_t state[16], uint32_t bound, uint32_t *indices, size_t n, uint64_t allowance, uint64_t found[1], uint64_t squeezes[1]);

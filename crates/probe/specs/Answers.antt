@@ -2,6 +2,9 @@
 -- in the room that it was lent for the answer.
 use mathlib.Core.List.{List}
 use Prim.Native.Nat.{ℕ}
+use Rattle.draws.specs.declared.DrawAnswer.{DrawAnswer}
+use Rattle.rows.specs.declared.column.CountAnswer.{CountAnswer}
+use Rattle.rows.specs.declared.column.EntryAnswer.{EntryAnswer}
 use Rattle.sponge.specs.declared.by_value.SpongeAnswer.{SpongeAnswer}
 use Rattle.sponge.specs.declared.by_value.SqueezeAnswer.{SqueezeAnswer}
 use Rattle.sponge.specs.declared.digest.DigestAnswer.{DigestAnswer}
@@ -40,3 +43,14 @@ squeezeAnswer n s t = record { refusal = n; sponge = spongeOf s; ten = t }
 
 abbrev pub digestAnswer : (refusal : ℕ) (digest : List ℕ) → DigestAnswer
 digestAnswer n d = record { refusal = n; digest = d }
+
+-- The rows and the draws
+
+abbrev pub countAnswer : (refusal count : ℕ) → CountAnswer
+countAnswer n k = record { refusal = n; count = k }
+
+abbrev pub entryAnswer : (refusal word : ℕ) → EntryAnswer
+entryAnswer n w = record { refusal = n; word = w }
+
+abbrev pub drawAnswer : (refusal found squeezes : ℕ) (state : List ℕ) → DrawAnswer
+drawAnswer n found squeezes s = record { refusal = n; found = found; squeezes = squeezes; sponge = spongeOf s }

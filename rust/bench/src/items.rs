@@ -1,7 +1,8 @@
 //! What is timed.
 
-use crate::side::{Lists, Side, States};
-use calls::{OnList, OnState};
+use crate::side::{Aligned, Held, Lists, Side, state_of};
+use crate::sponges;
+use calls::OnList;
 use oracle::timed::{self, Inverse, Sponge};
 
 pub struct Item {
@@ -14,45 +15,61 @@ pub struct Item {
     pub theirs: fn(&Item) -> Box<dyn Side>,
 }
 
-pub const ITEMS: [Item; 6] = [
-    Item {
-        name: "generated_function",
-        size: 16,
-        share: 1,
-        ours: |_| on_state("probe_generated_function"),
-        theirs: |_| {
-            Box::new(States::new(
-                |words| words,
-                timed::generated_function,
-                |words| *words,
-            ))
-        },
-    },
-    Item {
-        name: "permutation",
-        size: 16,
-        share: 1,
-        ours: |_| on_state("probe_permutation"),
-        theirs: |_| Box::new(States::new(Sponge::new, Sponge::permutation, Sponge::state)),
-    },
-    Item {
-        name: "inv_permutation",
-        size: 16,
-        share: 20,
-        ours: |_| on_state("probe_inv_permutation"),
-        theirs: |_| {
-            Box::new(States::new(
-                Inverse::new,
-                Inverse::inv_permutation,
-                Inverse::state,
-            ))
-        },
-    },
+/// All items, in the order of the table.
+pub fn all() -> Vec<Item> {
+    let mut items = vec![GENERATED_FUNCTION, PERMUTATION, INV_PERMUTATION];
     // A list takes a permutation for each ten words, and one more.
-    lists("hash_varlen_10", 10, 4),
-    lists("hash_varlen_1000", 1000, 400),
-    lists("hash_varlen_100000", 100_000, 40_000),
-];
+    items.push(lists("hash_varlen_10", 10, 4));
+    items.push(lists("hash_varlen_1000", 1000, 400));
+    items.push(lists("hash_varlen_100000", 100_000, 40_000));
+    items.extend(sponges::items());
+    items
+}
+
+const GENERATED_FUNCTION: Item = Item {
+    name: "generated_function",
+    size: 16,
+    share: 1,
+    ours: |_| on_state("probe_generated_function"),
+    theirs: |_| {
+        Box::new(Held::new(
+            16,
+            state_of,
+            timed::generated_function,
+            |words| words.to_vec(),
+        ))
+    },
+};
+
+const PERMUTATION: Item = Item {
+    name: "permutation",
+    size: 16,
+    share: 1,
+    ours: |_| on_state("probe_permutation"),
+    theirs: |_| {
+        Box::new(Held::new(
+            16,
+            |words| Sponge::new(state_of(words)),
+            Sponge::permutation,
+            |sponge| sponge.state().to_vec(),
+        ))
+    },
+};
+
+const INV_PERMUTATION: Item = Item {
+    name: "inv_permutation",
+    size: 16,
+    share: 20,
+    ours: |_| on_state("probe_inv_permutation"),
+    theirs: |_| {
+        Box::new(Held::new(
+            16,
+            |words| Inverse::new(state_of(words)),
+            Inverse::inv_permutation,
+            |inverse| inverse.state().to_vec(),
+        ))
+    },
+};
 
 const fn lists(name: &'static str, size: usize, share: usize) -> Item {
     Item {
@@ -73,16 +90,13 @@ const fn lists(name: &'static str, size: usize, share: usize) -> Item {
     }
 }
 
-/// A state of ours, aligned as the source aligns its own, and the call on it.
-#[repr(align(64))]
-struct Aligned([u64; 16], OnState);
-
-/// Our side, where the archive is linked and has the call.
+/// Our side of a call on a state alone, where the archive is linked and has the call.
 fn on_state(call: &str) -> Option<Box<dyn Side>> {
     let call = calls::on_state(call)?;
-    Some(Box::new(States::new(
-        move |state| Aligned(state, call),
-        |held| assert_eq!((held.1)(&mut held.0), 0),
-        |held| held.0,
+    Some(Box::new(Held::new(
+        16,
+        move |words| (Aligned(state_of(words)), call),
+        |(state, call)| assert_eq!(call(&mut state.0), 0),
+        |(state, _)| state.0.to_vec(),
     )))
 }

@@ -6,6 +6,7 @@
 mod items;
 mod options;
 mod side;
+mod sponges;
 mod timing;
 
 use options::Options;

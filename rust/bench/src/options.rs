@@ -9,8 +9,7 @@ bench: time our calls against the real twenty-first source
 
   --calls N        calls on a state (default 1000000; an inverse is called a twentieth as often,
                    and a list as often as takes a like time)
-  --only NAME      only this call: generated_function, permutation, inv_permutation,
-                   hash_varlen_10, hash_varlen_1000 or hash_varlen_100000
+  --only NAME      only this call, by its name in the table: permutation, hash_varlen_1000, ..
   --iterations N   no clock: make one call so often, for a tool that counts instructions.
                    --only then names the side too: ours-permutation, theirs-permutation, ..
   --help           this text

@@ -3,6 +3,15 @@
 use calls::OnList;
 use oracle::{Five, State};
 
+/// A state of ours, aligned as the source aligns its own.
+#[repr(align(64))]
+pub struct Aligned(pub State);
+
+/// The state that an input begins with.
+pub fn state_of(words: &[u64]) -> State {
+    *words.first_chunk().expect("an input begins with a state")
+}
+
 pub trait Side {
     /// Takes these words in place of what it holds, so many for each call.
     fn load(&mut self, words: &[u64]);
@@ -12,31 +21,31 @@ pub trait Side {
     fn answers(&self) -> Vec<u64>;
 }
 
-/// Calls on a state in place, over the type that a side holds a state in.
-pub struct States<T, New> {
+/// Calls on inputs of one size, over the type that a side holds an input and its answer in.
+pub struct Held<T, New> {
+    size: usize,
     new: New,
     call: fn(&mut T),
-    state: fn(&T) -> State,
+    answer: fn(&T) -> Vec<u64>,
     held: Vec<T>,
 }
 
-impl<T, New: Fn(State) -> T> States<T, New> {
-    pub fn new(new: New, call: fn(&mut T), state: fn(&T) -> State) -> Self {
+impl<T, New: Fn(&[u64]) -> T> Held<T, New> {
+    pub fn new(size: usize, new: New, call: fn(&mut T), answer: fn(&T) -> Vec<u64>) -> Self {
         Self {
+            size,
             new,
             call,
-            state,
+            answer,
             held: vec![],
         }
     }
 }
 
-impl<T, New: Fn(State) -> T> Side for States<T, New> {
+impl<T, New: Fn(&[u64]) -> T> Side for Held<T, New> {
     fn load(&mut self, words: &[u64]) {
-        let (states, _) = words.as_chunks();
         self.held.clear();
-        self.held
-            .extend(states.iter().map(|&state| (self.new)(state)));
+        self.held.extend(words.chunks(self.size).map(&self.new));
     }
 
     fn run(&mut self) {
@@ -44,7 +53,7 @@ impl<T, New: Fn(State) -> T> Side for States<T, New> {
     }
 
     fn answers(&self) -> Vec<u64> {
-        self.held.iter().flat_map(self.state).collect()
+        self.held.iter().flat_map(self.answer).collect()
     }
 }
 

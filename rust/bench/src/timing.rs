@@ -1,6 +1,6 @@
 //! The two ways to run: against the clock, or only so often.
 
-use crate::items::{ITEMS, Item};
+use crate::items;
 use crate::options::Options;
 use crate::side::Side;
 use cases::Random;
@@ -13,19 +13,19 @@ const BLOCK: usize = 16_000;
 
 /// Prints the table of times.
 pub fn table(options: &Options) -> Result<(), String> {
-    let wanted = |item: &&Item| options.only.is_empty() || options.only == item.name;
-    let items: Vec<&Item> = ITEMS.iter().filter(wanted).collect();
+    let mut items = items::all();
+    items.retain(|item| options.only.is_empty() || options.only == item.name);
     if items.is_empty() {
         return Err(format!("nothing is called {}", options.only));
     }
     println!("ns for each call, least block (median block)");
     println!(
-        "{:<20} {:>9} {:>22} {:>22} {:>16} {:>14}",
+        "{:<32} {:>9} {:>22} {:>22} {:>16} {:>14}",
         "call", "calls", "ours", "theirs", "ratio", "ours, a word"
     );
-    for item in items {
+    for item in &items {
         let Some(ours) = (item.ours)(item) else {
-            println!("{:<20} not linked", item.name);
+            println!("{:<32} not linked", item.name);
             continue;
         };
         let block = (BLOCK / item.size).max(1);
@@ -36,7 +36,7 @@ pub fn table(options: &Options) -> Result<(), String> {
             [times[0], times[times.len() / 2]].map(|time| time / block as f64)
         });
         println!(
-            "{:<20} {:>9} {:>22} {:>22} {:>16} {:>14}",
+            "{:<32} {:>9} {:>22} {:>22} {:>16} {:>14}",
             item.name,
             blocks * block,
             format!("{:.1} ({:.1})", our[0], our[1]),
@@ -76,7 +76,8 @@ fn race(size: usize, blocks: usize, mut sides: [Box<dyn Side>; 2]) -> [Vec<f64>;
 /// Makes one call so often on one side, for a tool that counts instructions.
 pub fn repeat(only: &str, iterations: usize) -> Result<(), String> {
     let (side, name) = only.split_once('-').ok_or("--only names no side")?;
-    let item = ITEMS.iter().find(|item| item.name == name);
+    let items = items::all();
+    let item = items.iter().find(|item| item.name == name);
     let item = item.ok_or_else(|| format!("nothing is called {name}"))?;
     let mut side = match side {
         "ours" => (item.ours)(item).ok_or_else(|| format!("{name} is not linked"))?,

@@ -3,17 +3,7 @@
 //! or the address and the number of items of what is lent in `data` and `length`.
 
 use crate::header::{Call, Param};
-
-/// The Rust type of a C type.
-fn rust_type(c: &str) -> &str {
-    match c {
-        "uint8_t" => "u8",
-        "uint32_t" => "u32",
-        "uint64_t" => "u64",
-        "size_t" => "usize",
-        other => panic!("no Rust type for {other}"),
-    }
-}
+use crate::{kinds, rust_type};
 
 /// The table of calls, as Rust.
 pub fn table(calls: &[Call]) -> String {
@@ -48,29 +38,7 @@ pub fn rust_calls(calls: &[Call]) -> String {
     let mut declared = String::from("unsafe extern \"C\" {\n");
     let mut arms = String::new();
     for (index, call) in calls.iter().enumerate().filter(|(_, call)| call.present) {
-        let mut types = vec![];
-        let mut values = vec![];
-        for (i, param) in call.params.iter().enumerate() {
-            match param {
-                Param::Number(kind) => {
-                    types.push(rust_type(kind).to_string());
-                    values.push(match rust_type(kind) {
-                        "u64" => format!("args[{i}].word"),
-                        narrow => format!("args[{i}].word as {narrow}"),
-                    });
-                }
-                Param::Array { item, shared, .. } => {
-                    types.push(rust_pointer(item, *shared));
-                    values.push(format!("args[{i}].data.cast()"));
-                }
-                Param::Slice { item, shared } => {
-                    types.push(rust_pointer(item, *shared));
-                    types.push("usize".to_string());
-                    values.push(format!("args[{i}].data.cast()"));
-                    values.push(format!("args[{i}].length"));
-                }
-            }
-        }
+        let (types, values): (Vec<_>, Vec<_>) = rust_params(call).into_iter().unzip();
         let name = &call.name;
         let types: Vec<_> = types.iter().map(|kind| format!("_: {kind}")).collect();
         declared += &format!("    pub fn {name}({}) -> u32;\n", types.join(", "));
@@ -80,40 +48,36 @@ pub fn rust_calls(calls: &[Call]) -> String {
         "{declared}}}\n\n\
          pub unsafe fn call(index: usize, args: &[Raw]) -> u32 {{\n    \
              unsafe {{\n        match index {{\n{arms}            \
-             _ => unreachable!(),\n        }}\n    }}\n}}\n\n{}\n{}",
-        by_name(calls, "on_state", "OnState", |params| match params {
-            [
-                Param::Slice {
-                    item,
-                    shared: false,
-                },
-            ] if item == "uint64_t" => Some("|state| unsafe { NAME(state.as_mut_ptr(), 16) }"),
-            [
-                Param::Array {
-                    item,
-                    length: 16,
-                    shared: false,
-                },
-            ] if item == "uint64_t" => Some("|state| unsafe { NAME(state.as_mut_ptr()) }"),
-            _ => None,
-        }),
-        by_name(calls, "on_list", "OnList", |params| match params {
-            [
-                Param::Slice {
-                    item: from,
-                    shared: true,
-                },
-                Param::Array {
-                    item: to,
-                    length: 5,
-                    shared: false,
-                },
-            ] if from == "uint64_t" && to == "uint64_t" => Some(
-                "|list, digest| unsafe { NAME(list.as_ptr(), list.len(), digest.as_mut_ptr()) }"
-            ),
-            _ => None,
-        }),
+             _ => unreachable!(),\n        }}\n    }}\n}}\n\n{}",
+        kinds::by_name(calls),
     )
+}
+
+/// The parameters of a linked function: the type of each, and its value out of `args`.
+fn rust_params(call: &Call) -> Vec<(String, String)> {
+    let of_param = |(i, param): (usize, &Param)| match param {
+        Param::Number(kind) => {
+            let value = match rust_type(kind) {
+                "u64" => format!("args[{i}].word"),
+                narrow => format!("args[{i}].word as {narrow}"),
+            };
+            vec![(rust_type(kind).to_string(), value)]
+        }
+        Param::Array { item, shared, .. } => {
+            vec![(
+                rust_pointer(item, *shared),
+                format!("args[{i}].data.cast()"),
+            )]
+        }
+        Param::Slice { item, shared } => vec![
+            (
+                rust_pointer(item, *shared),
+                format!("args[{i}].data.cast()"),
+            ),
+            ("usize".to_string(), format!("args[{i}].length")),
+        ],
+    };
+    call.params.iter().enumerate().flat_map(of_param).collect()
 }
 
 /// A pointer to items of a C type, as Rust.
@@ -122,61 +86,19 @@ fn rust_pointer(item: &str, shared: bool) -> String {
     format!("{kind} {}", rust_type(item))
 }
 
-/// A function from names to the linked functions of one kind, as Rust. `shape` answers the closure
-/// that makes a call with such parameters, NAME standing for the call; none where it has others.
-fn by_name(
-    calls: &[Call],
-    name: &str,
-    kind: &str,
-    shape: fn(&[Param]) -> Option<&'static str>,
-) -> String {
-    let arm = |call: &Call| {
-        let closure = shape(&call.params)?.replace("NAME", &call.name);
-        Some(format!("        {:?} => Some({closure}),\n", call.name))
-    };
-    let present = calls.iter().filter(|call| call.present);
-    let arms: String = present.filter_map(arm).collect();
-    format!(
-        "pub fn {name}(name: &str) -> Option<{kind}> {{\n    \
-             match name {{\n{arms}        _ => None,\n    }}\n}}\n"
-    )
-}
-
 /// The functions, the shapes of their parameters and the function that calls them, as C.
 pub fn c_calls(calls: &[Call]) -> String {
     let mut declared = String::new();
     let mut shapes = String::new();
     let mut arms = String::new();
     for (index, call) in calls.iter().enumerate() {
-        let mut types = vec![];
-        let mut values = vec![];
-        let mut shape = String::new();
-        for (i, param) in call.params.iter().enumerate() {
-            match param {
-                Param::Number(kind) => {
-                    types.push(kind.clone());
-                    values.push(format!("args[{i}].word"));
-                    shape += "0, ";
-                }
-                Param::Array { item, .. } => {
-                    types.push(format!("{item} *"));
-                    values.push(format!("args[{i}].data"));
-                    shape += &format!("sizeof({item}), ");
-                }
-                Param::Slice { item, .. } => {
-                    types.push(format!("{item} *"));
-                    types.push("size_t".to_string());
-                    values.push(format!("args[{i}].data"));
-                    values.push(format!("args[{i}].length"));
-                    shape += &format!("sizeof({item}), ");
-                }
-            }
-        }
-        let (name, count) = (&call.name, call.params.len());
-        shapes += &format!("    {{{count}, {{{shape}}}}},\n");
+        let sizes: Vec<_> = call.params.iter().map(c_size).collect();
+        shapes += &format!("    {{{}, {{{}}}}},\n", sizes.len(), sizes.join(", "));
         if call.present {
-            declared += &format!("uint32_t {name}({});\n", types.join(", "));
-            arms += &format!("    case {index}: return {name}({});\n", values.join(", "));
+            let (types, values): (Vec<_>, Vec<_>) = c_params(call).into_iter().unzip();
+            let (name, types, values) = (&call.name, types.join(", "), values.join(", "));
+            declared += &format!("uint32_t {name}({types});\n");
+            arms += &format!("    case {index}: return {name}({values});\n");
         }
     }
     format!(
@@ -184,4 +106,25 @@ pub fn c_calls(calls: &[Call]) -> String {
          static uint32_t call(uint64_t index, struct raw *args) {{\n    \
          switch (index) {{\n{arms}    default: __builtin_trap();\n    }}\n}}\n"
     )
+}
+
+/// The size of an item of a parameter, 0 for a number, as C.
+fn c_size(param: &Param) -> String {
+    match param {
+        Param::Number(_) => "0".to_string(),
+        Param::Array { item, .. } | Param::Slice { item, .. } => format!("sizeof({item})"),
+    }
+}
+
+/// The parameters of a function: the type of each, and its value out of `args`.
+fn c_params(call: &Call) -> Vec<(String, String)> {
+    let of_param = |(i, param): (usize, &Param)| match param {
+        Param::Number(kind) => vec![(kind.clone(), format!("args[{i}].word"))],
+        Param::Array { item, .. } => vec![(format!("{item} *"), format!("args[{i}].data"))],
+        Param::Slice { item, .. } => vec![
+            (format!("{item} *"), format!("args[{i}].data")),
+            ("size_t".to_string(), format!("args[{i}].length")),
+        ],
+    };
+    call.params.iter().enumerate().flat_map(of_param).collect()
 }

@@ -5,6 +5,7 @@
 mod archive;
 mod generate;
 mod header;
+mod kinds;
 mod server;
 
 use archive::Archive;
@@ -70,6 +71,17 @@ fn folder() -> Result<Option<PathBuf>, String> {
     let folder = fs::canonicalize(&named);
     let folder = folder.map_err(|error| format!("VARDRAKUP_ARCHIVES={named}: {error}"))?;
     Ok(Some(folder))
+}
+
+/// The Rust type of a C type.
+fn rust_type(c: &str) -> &str {
+    match c {
+        "uint8_t" => "u8",
+        "uint32_t" => "u32",
+        "uint64_t" => "u64",
+        "size_t" => "usize",
+        other => panic!("no Rust type for {other}"),
+    }
 }
 
 fn write(path: &Path, text: &str) -> Result<(), String> {

@@ -1,6 +1,6 @@
 //! No archive was named when this was built, so there is no way to our calls.
 
-use crate::{Answer, OnList, OnState, Request};
+use crate::{Answer, Request};
 
 pub enum Way {}
 
@@ -16,14 +16,4 @@ impl Way {
     pub fn run(&mut self, _: &[Request]) -> Vec<Answer> {
         match *self {}
     }
-}
-
-/// Nothing is linked here.
-pub fn on_state(_: &str) -> Option<OnState> {
-    None
-}
-
-/// Nothing is linked here.
-pub fn on_list(_: &str) -> Option<OnList> {
-    None
 }

@@ -2,16 +2,25 @@
 //! otherwise through the server. A request and its answer are plain data, so that both ways look
 //! the same to who compares.
 
+mod kinds;
 mod table;
+#[cfg(not(linked))]
+mod unlinked;
 
 #[cfg_attr(linked, path = "linked.rs")]
 #[cfg_attr(served, path = "served.rs")]
 #[cfg_attr(not(any(linked, served)), path = "absent.rs")]
 mod way;
 
+pub use kinds::{OnList, OnState, OnStateAndIndices, OnStateAndList, OnStateAndTen};
 pub use table::{CALLS, Call, Item, Param};
+#[cfg(not(linked))]
+pub use unlinked::*;
 use way::Way;
-pub use way::{on_list, on_state};
+#[cfg(linked)]
+pub use way::functions::{
+    on_list, on_state, on_state_and_indices, on_state_and_list, on_state_and_ten,
+};
 
 /// What goes into a call or comes back from it.
 #[derive(Debug, Clone, PartialEq, Eq)]
@@ -67,12 +76,6 @@ pub struct Answer {
     pub args: Vec<Arg>,
     pub strayed: bool,
 }
-
-/// A linked call on one state, for timing.
-pub type OnState = fn(&mut [u64; 16]) -> u32;
-
-/// A linked call on a list of words and room for its digest, for timing.
-pub type OnList = fn(&[u64], &mut [u64; 5]) -> u32;
 
 /// The way to our calls.
 pub struct Ours(Way);

@@ -5,12 +5,11 @@ use std::alloc::Layout;
 use std::ptr::NonNull;
 
 /// The linked functions, which the build script writes from the headers.
-mod functions {
+pub mod functions {
     use super::Raw;
-    use crate::{OnList, OnState};
+    use crate::kinds::*;
     include!(concat!(env!("OUT_DIR"), "/linked.rs"));
 }
-pub use functions::{on_list, on_state};
 
 /// An argument: a number, or the address and the number of items of what is lent.
 #[allow(dead_code)] // a short list of calls may have no argument of one kind

@@ -1,7 +1,7 @@
 //! Our calls, made by the server: an x86-64 program that the kit's emulator runs. `server.c` says
 //! what is written and read.
 
-use crate::{Answer, Arg, OnList, OnState, Request};
+use crate::{Answer, Arg, Request};
 use std::io::{Read, Write};
 use std::process::{Child, Command, Stdio};
 
@@ -101,14 +101,4 @@ fn take<'a>(rest: &mut &'a [u8], size: usize) -> &'a [u8] {
     let (front, back) = rest.split_at(size);
     *rest = back;
     front
-}
-
-/// Nothing is linked here.
-pub fn on_state(_: &str) -> Option<OnState> {
-    None
-}
-
-/// Nothing is linked here.
-pub fn on_list(_: &str) -> Option<OnList> {
-    None
 }

@@ -60,6 +60,11 @@ impl Case {
         self.words(words, words)
     }
 
+    /// A slice of indices, and what it is to hold after the call.
+    pub fn indices(self, before: &[u32], want: &[u32]) -> Self {
+        self.arg(Arg::Indices(before.to_vec()), Arg::Indices(want.to_vec()))
+    }
+
     /// A slice of bytes, and what it is to hold after the call.
     pub fn bytes(self, before: &[u8], want: &[u8]) -> Self {
         self.arg(Arg::Bytes(before.to_vec()), Arg::Bytes(want.to_vec()))

@@ -9,8 +9,9 @@ const USAGE: Usage = Usage {
 compare: hold our calls to the real twenty-first source
 
   --cases N         random cases for each field call (default 100000); a permutation has a tenth
-                    of that, a step of a sponge a twentieth, an inverse a hundredth, and a list a
-                    five-hundredth; edges come besides
+                    of that, a step of a sponge, a draw and a column's view a twentieth, a table
+                    a fiftieth, an inverse a hundredth, a list a five-hundredth, and a chain of
+                    calls in place a thousandth; edges come besides
   --seed N          the seed of the random cases (default 1)
   --only NAME       only this call (add or probe_add), or this group of calls (field)
   --allow-missing   a declared call that no archive has is no failure

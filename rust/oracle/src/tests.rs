@@ -88,7 +88,8 @@ fn row_sum_p() {
 
 #[test]
 fn forms_agree() {
-    let state: State = std::array::from_fn(|i| field::new(i as u64 * 0x9e37_79b9_7f4a_7c15));
+    let state: State =
+        std::array::from_fn(|i| field::new((i as u64).wrapping_mul(0x9e37_79b9_7f4a_7c15)));
     let trace = permutation::trace(state);
     assert_eq!(trace[0], state);
     for i in 0..ROUNDS {

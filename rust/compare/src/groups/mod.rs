@@ -1,13 +1,17 @@
 //! The cases of each call, group by group. A new group is a module with a `makers()` and a line
 //! in `all`.
 
+mod columns;
 mod digests;
+mod draws;
 mod exports;
 mod field;
+mod in_place;
 mod inverse;
 mod lists;
 mod permutation;
 mod refusals;
+mod rows;
 mod sponge;
 
 use crate::case::Case;
@@ -38,7 +42,11 @@ pub fn all() -> Vec<Maker> {
         permutation::makers(),
         inverse::makers(),
         sponge::makers(),
+        in_place::makers(),
         digests::makers(),
+        rows::makers(),
+        columns::makers(),
+        draws::makers(),
         exports::makers(),
     ]
     .into_iter()

@@ -4,6 +4,7 @@
 
 use super::super::inverse::InverseTip5;
 use super::*;
+use crate::util_types::sponge::Sponge as _;
 
 /// A sponge.
 pub struct Sponge(Tip5);
@@ -21,6 +22,26 @@ impl Sponge {
     #[unsafe(export_name = "theirs_permutation")]
     pub fn permutation(&mut self) {
         self.0.permutation_scalar();
+    }
+
+    #[inline(never)]
+    pub fn absorb(&mut self, ten: &Ten) {
+        self.0.absorb(elements(*ten));
+    }
+
+    #[inline(never)]
+    pub fn squeeze(&mut self) -> Ten {
+        words(self.0.squeeze())
+    }
+
+    #[inline(never)]
+    pub fn pad_and_absorb_all(&mut self, input: &[u64]) {
+        self.0.pad_and_absorb_all(as_elements(input));
+    }
+
+    #[inline(never)]
+    pub fn sample_indices(&mut self, bound: u32, count: usize) -> Vec<u32> {
+        self.0.sample_indices(bound, count)
     }
 }
 

@@ -1,0 +1,3 @@
+-- What the walks of the functions that lend a record share.
+pub mod LocalWalk
+pub mod WordsWalk
