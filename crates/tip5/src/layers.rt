@@ -101,28 +101,23 @@ fn reduced_word(lo: u64, hi: u64) -> u64
 }
 
 // The lower and the upper 32 bits of each word.
-fn lower_halves(s: [u64; 16]) -> [u64; 16]
-    ensures { λ r. ⌜ r ≡ tab 16 0 (λ i. getD s i 0 % 2 ^ 32) ⌝ }
-{
-    let mut out = s;
-    let mut i = 0;
-    while i < 16 {
-        out[i] = s[i] % 4294967296;
-        i += 1;
-    }
-    out
+struct Halves {
+    lower: [u64; 16],
+    upper: [u64; 16],
 }
 
-fn upper_halves(s: [u64; 16]) -> [u64; 16]
-    ensures { λ r. ⌜ r ≡ tab 16 0 (λ i. getD s i 0 / 2 ^ 32) ⌝ }
+fn split_halves(s: [u64; 16]) -> Halves
+    ensures { λ r. ⌜ (r .lower ≡ tab 16 0 (λ i. getD s i 0 % 2 ^ 32)) × (r .upper ≡ tab 16 0 (λ i. getD s i 0 / 2 ^ 32)) ⌝ }
 {
-    let mut out = s;
+    let mut lower = s;
+    let mut upper = s;
     let mut i = 0;
     while i < 16 {
-        out[i] = s[i] / 4294967296;
+        lower[i] = s[i] % 4294967296;
+        upper[i] = s[i] / 4294967296;
         i += 1;
     }
-    out
+    Halves { lower, upper }
 }
 
 // The words of a state from the outcomes of the generated function on its halves.
@@ -143,8 +138,11 @@ fn joined(lo: [u64; 16], hi: [u64; 16]) -> [u64; 16]
 pub(crate) fn mds_generated(s: [u64; 16]) -> [u64; 16]
     ensures { λ r. ⌜ r ≡ tab 16 0 (λ i. reduced (rowSum mdsColumn s i)) ⌝ }
 {
-    let lo = matrix::generated_function(lower_halves(s));
-    let hi = matrix::generated_function(upper_halves(s));
+    let halves = split_halves(s);
+    let lower = halves.lower;
+    let upper = halves.upper;
+    let lo = matrix::generated_function(lower);
+    let hi = matrix::generated_function(upper);
     joined(lo, hi)
 }
 

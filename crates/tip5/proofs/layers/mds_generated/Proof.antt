@@ -23,17 +23,14 @@ times16 l = tab 16 0 (λ i. (16 * rowSum mdsColumn l i) % 2 ^ 64)
 outcome : (l : List ℕ) {out : List ℕ} → out ≡ times16 l → (i : ℕ) → i < 16 → getD out i 0 ≡ (16 * rowSum mdsColumn l i) % 2 ^ 64
 outcome l e i h = ap (λ (xs : List ℕ). getD xs i 0) e ∙ getD-tab₀ 16 (λ i. (16 * rowSum mdsColumn l i) % 2 ^ 64) i h
 
-word : (c : tie.After-joined) (k : ℕ) → getD (c .before .before .before .before .before .args .s) k 0 < 2 ^ 64
-word c k = let f : Fits w64 (getD (c .before .before .before .before .before .args .s) k 0) = search needs in f .fits
+word : (c : tie.After-joined) (k : ℕ) → getD (c .before .before .before .before .before .before .args .s) k 0 < 2 ^ 64
+word c k = let f : Fits w64 (getD (c .before .before .before .before .before .before .args .s) k 0) = search needs in f .fits
 
-lower-halves-requires : tie.Need-lower-halves-requires
-lower-halves-requires c κs = search needs
+split-halves-requires : tie.Need-split-halves-requires
+split-halves-requires c κs = search needs
 
 generated-function-requires : tie.Need-generated-function-requires
 generated-function-requires c κs = search needs
-
-upper-halves-requires : tie.Need-upper-halves-requires
-upper-halves-requires c κs = search needs
 
 generated-function-requires-2 : tie.Need-generated-function-requires-2
 generated-function-requires-2 c κs = search needs
@@ -43,18 +40,17 @@ joined-requires c κs = search needs
 
 returns : tie.Need-returns
 returns c =
-    let s = c .before .before .before .before .before .args .s in
+    let s = c .before .before .before .before .before .before .args .s in
     c .joined .ensures
-    ∙ tab-same 16 0 {f = λ i. reduced (getD (c .before .before .before .generated-function .result) i 0 / 16 + getD (c .before .generated-function2 .result) i 0 * 2 ^ 28)} {g = λ i. reduced (rowSum mdsColumn s i)}
-    (λ i l u. ap reduced ((λ j. outcome (lower s) (c .before .before .before .generated-function .ensures ∙ ap times16 (c .before .before .before .before .lower-halves .ensures)) i u j / 16 + outcome (upper s) (c .before .generated-function2 .ensures ∙ ap times16 (c .before .before .upper-halves .ensures)) i u j * 2 ^ 28) ∙ halves-joined s (word c) i))
+    ∙ tab-same 16 0 {f = λ i. reduced (getD (c .before .before .generated-function .result) i 0 / 16 + getD (c .before .generated-function2 .result) i 0 * 2 ^ 28)} {g = λ i. reduced (rowSum mdsColumn s i)}
+    (λ i l u. ap reduced ((λ j. outcome (lower s) (c .before .before .generated-function .ensures ∙ ap times16 (c .before .before .before .before .before .split-halves .ensures .0)) i u j / 16 + outcome (upper s) (c .before .generated-function2 .ensures ∙ ap times16 (c .before .before .before .before .before .split-halves .ensures .1)) i u j * 2 ^ 28) ∙ halves-joined s (word c) i))
 
 pub mds-generated-spec : {M : Type 1} → statement M
 mds-generated-spec =
     tie.close
     (tie.spec
-    lower-halves-requires
+    split-halves-requires
     generated-function-requires
-    upper-halves-requires
     generated-function-requires-2
     joined-requires
     returns)
