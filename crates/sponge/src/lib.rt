@@ -5,6 +5,7 @@ pub mod in_place;
 mod judge;
 mod padding;
 mod put;
+mod stated;
 pub mod step_back;
 
 use tip5::b_field_element::BFieldElement;

@@ -9,4 +9,5 @@ mod layers;
 pub mod permutation;
 pub mod refusal;
 mod seventh_root;
+mod stated;
 mod tables;
