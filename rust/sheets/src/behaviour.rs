@@ -1,4 +1,4 @@
-//! How the program deals with its input and output: the cases that document 01 names, input in every
+//! How the program deals with its input and output: the cases that the requirements name, input in every
 //! shape, and output that is closed, full or gone. Each must end in time, and write one line with one
 //! write where there is somewhere to write.
 

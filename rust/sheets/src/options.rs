@@ -15,11 +15,14 @@ sheets: hold the program draw_sheet to a second reading of sheets, over the real
   --launch WORDS  the words that start the program, one to a line
   --serve WORDS   the words that start it with starter.c beside it; it then starts the program for
                   all sheets but every twentieth, and less is spent on starts
+  --read FILE     only write the second reading's line of one sheet
   --help          this text
 
 Exit status: 0 where nothing differs and each kind of line was met, otherwise 1.
 ",
-    with_value: &["--cases", "--seed", "--jobs", "--launch", "--serve"],
+    with_value: &[
+        "--cases", "--seed", "--jobs", "--launch", "--serve", "--read",
+    ],
     alone: &["--no-behaviour"],
 };
 
@@ -31,6 +34,8 @@ pub struct Options {
     pub program: Program,
     /// The words that start the starter.
     pub serve: Option<Vec<String>>,
+    /// A file whose line is to be written, and nothing else done.
+    pub read: Option<String>,
 }
 
 impl Options {
@@ -51,6 +56,7 @@ impl Options {
                 words: words("--launch").unwrap_or_else(own),
             },
             serve: words("--serve"),
+            read: given.text("--read").map(str::to_string),
         }
     }
 }

@@ -1,4 +1,4 @@
-//! A second reading of a sheet, from document 01's words and over the source's Tip5. It shares
+//! A second reading of a sheet, from the requirements' words and over the source's Tip5. It shares
 //! nothing with the crate that it judges.
 
 use oracle::field::{self, P};
@@ -63,7 +63,7 @@ impl Line {
     }
 }
 
-/// The line of any bytes. The refusals come in document 01's order.
+/// The line of any bytes. The refusals come in the requirements' order.
 pub fn read(sheet: &[u8]) -> Line {
     if sheet.len() < 6 {
         return Line::Refused(4);
