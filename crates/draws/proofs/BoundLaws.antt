@@ -77,7 +77,7 @@ accepted-bound bound e = test-power 32 bound (passed (powerBelow 32 bound) e)
 pub bound-accepted : (bound : ℕ) → Power 32 bound → boundRefusal bound ≡ 0
 bound-accepted bound p = ap (λ (b : Bool). cond b 0 3) (power-test 32 bound p)
 
--- the bounds of document 01, computed: 1 and 2 ^ 31 pass; 0, 3 and 2 ^ 31 + 1 are refused 3
+-- the bounds of the requirements, computed: 1 and 2 ^ 31 pass; 0, 3 and 2 ^ 31 + 1 are refused 3
 pub worked-bounds : (boundRefusal 1 ≡ 0) × (boundRefusal (2 ^ 31) ≡ 0) × (boundRefusal 0 ≡ 3) × (boundRefusal 3 ≡ 3) × (boundRefusal (2 ^ 31 + 1) ≡ 3)
 unfolding powerBelow
 worked-bounds = (refl, refl, refl, refl, refl)

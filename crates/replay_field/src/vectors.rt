@@ -1,4 +1,4 @@
-// Stored answers of the Rust's field calls, and refusals by document 01.
+// Stored answers of the Rust's field calls, and refusals by the requirements.
 // Made by the command `rust/run-vectors` from the real twenty-first source (seed 1), and
 // not edited by hand.
 

@@ -69,7 +69,7 @@ pub padded-tens : (ws : List ℕ) → Below ws → Tens (padded ws)
 unfolding padded
 padded-tens ws h = tens-all (length ws / 10) ws refl h
 
--- the counts of document 01, computed: 0 and 9 take one, 10 and 19 two, 20 three
+-- the counts of the requirements, computed: 0 and 9 take one, 10 and 19 two, 20 three
 pub padded-counts : (length (padded []) ≡ 1) × (length (padded (replicate 9 0)) ≡ 1) × (length (padded (replicate 10 0)) ≡ 2) × (length (padded (replicate 19 0)) ≡ 2) × (length (padded (replicate 20 0)) ≡ 3)
 unfolding padded tens
 padded-counts = (refl, refl, refl, refl, refl)

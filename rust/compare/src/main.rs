@@ -1,6 +1,6 @@
 //! The differential runner: makes each of our calls on the same inputs as the oracle and compares
 //! every word written, every word left alone, and every refusal. Where the source judges nothing,
-//! what is wanted comes from document 01's table of refusals.
+//! what is wanted comes from the requirements' table of refusals.
 
 mod case;
 mod groups;

@@ -1,4 +1,4 @@
-//! What is known of Tip5 from elsewhere: two published vectors and document 01's worked cases.
+//! What is known of Tip5 from elsewhere: two published vectors and the requirements' worked cases.
 
 use crate::field::{self, P};
 use crate::permutation::{self, ROUNDS};

@@ -51,7 +51,9 @@ pub fn file() -> String {
     let calls =
         "The call: 0 new, 1 from_raw_u64, 2 raw_u64, 3 value, 4 add, 5 sub, 6 mul, 7 mod_pow.";
     [
-        rattle::header("Stored answers of the Rust's field calls, and refusals by document 01."),
+        rattle::header(
+            "Stored answers of the Rust's field calls, and refusals by the requirements.",
+        ),
         rattle::number("The number of cases.", "CASES", cases.len()),
         rattle::array(calls, "CALL", &column(|case| case.call)),
         "\n".to_string(),

@@ -20,7 +20,7 @@ pub fn makers() -> Vec<Maker> {
     group("draws", [("probe_sample_indices", drawings)])
 }
 
-/// What is to come of a draw by document 01's rule.
+/// What is to come of a draw by the requirements' rule.
 pub struct Drawn {
     pub indices: Vec<u32>,
     pub squeezes: u64,

@@ -55,7 +55,7 @@ fn exports(
     }
 }
 
-/// A case with what document 01 wants of these bytes.
+/// A case with what the requirements want of these bytes.
 fn on_bytes(call: &'static str, answer: fn(State) -> State, bytes: &[u8]) -> Case {
     let case = Case::new(call);
     let Some(state) = words_of(bytes) else {

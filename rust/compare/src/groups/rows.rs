@@ -36,7 +36,7 @@ impl Table {
         }
     }
 
-    /// The refusal by document 01's rule, with products of whole numbers.
+    /// The refusal by the requirements' rule, with products of whole numbers.
     fn refusal(&self) -> u32 {
         let entries = u128::from(self.columns) * u128::from(self.rows);
         let size = entries.checked_mul(self.width.into());
