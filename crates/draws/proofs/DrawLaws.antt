@@ -1,5 +1,5 @@
--- The laws of a draw: one draw goes on from another, as many are found and squeezed as wanted and allowed, and the sponge is the start
--- after the squeezes that are counted.
+-- The laws of a draw: one draw goes on from another, no more is squeezed than allowed, and the sponge is the start after the squeezes
+-- that are counted.
 -- Assumes nothing.
 use mathlib.Core.List.{_++_, append-assoc, append-nil}
 use mathlib.Core.Path.{_≡_, refl, ap, ap₂, sym, _∙_}
@@ -7,7 +7,7 @@ use Prim.Native.Nat.{ℕ, zero, suc, _+_, _-_, _≤_, _<_}
 use native.Mathlib.Nat.{add-assoc, add-zero, zero-add, suc-add, sub-zero}
 use native.Mathlib.Numerals.{one-add}
 use native.Mathlib.Omega.{arith}
-use lib.ListN.{length, replicate, take, length-append, length-take}
+use lib.ListN.{length, replicate, take, length-append}
 use Rattle.draws.specs.Draw.{Draw, draw, fromTen, fromWords, joined, nothing}
 use Rattle.sponge.specs.declared.Tip5.{Tip5}
 use Rattle.sponge.specs.History.{after, run}
@@ -60,18 +60,7 @@ draw-add bound (suc a) more (suc n) s =
     ∙ ap (joined d) (draw-add bound a more left (d .sponge))
     ∙ sym (ap (λ (k : ℕ). joined (joined d e) (draw bound more k (e .sponge))) fewer ∙ joined-assoc d e (draw bound more (left - length (e .indices)) (e .sponge)))
 
--- What is found and counted
-
--- no more than wanted
-pub draw-found : (bound a n : ℕ) (s : Tip5) → length (draw bound a n s .indices) ≤ n
-unfolding draw fromTen
-draw-found bound zero n s = omega arith
-draw-found bound (suc a) zero s = omega arith
-draw-found bound (suc a) (suc n) s =
-    let here = take (suc n) (fromWords bound (rate s)) in
-    let rest = draw bound a (suc n - length here) (squeezed s) in
-    let few = draw-found bound a (suc n - length here) (squeezed s) in
-    omega (arith, length-append here (rest .indices), length-take (suc n) (fromWords bound (rate s)))
+-- What is counted
 
 -- no more than allowed
 pub draw-squeezes : (bound a n : ℕ) (s : Tip5) → draw bound a n s .squeezes ≤ a

@@ -1,7 +1,6 @@
 -- The laws of this crate's definitions.
 pub mod AllowanceLaws
 pub mod AnswerLaws
-pub mod BelowBound
 pub mod BoundLaws
 pub mod DrawLaws
 pub mod DrawingLaws
