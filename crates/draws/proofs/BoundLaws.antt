@@ -2,14 +2,14 @@
 -- Assumes nothing.
 use mathlib.Core.Bool.{Bool, true, false, cond, true≢false}
 use mathlib.Core.Path.{_≡_, refl, ap, sym, _∙_}
-use Prim.Native.Nat.{ℕ, zero, suc, _+_, _*_, _%_, _^_, _<_}
+use Prim.Native.Nat.{ℕ, zero, suc, _+_, _^_, _<_}
 use native.Mathlib.Decide.{ℕ-discrete}
-use native.Mathlib.Nat.{le-of-suc-le-suc, one-mul}
+use native.Mathlib.Nat.{le-of-suc-le-suc}
 use native.Mathlib.Omega.{arith}
 use borrow.Author.Tests.{eq-eqb, ne-eqb}
 use lib.Arith.{lt-of-le-ne}
-use lib.Dec.{lit<}
-use lib.Pow.{pow-pos, shl-exact}
+use lib.Pow.{pow-pos}
+use Rattle.numbers.proofs.Tests.{passed}
 use Rattle.draws.specs.Bound.{boundRefusal, powerBelow}
 
 -- the bound is 2 ^ k, and k is below n
@@ -30,10 +30,6 @@ pub power-positive : {n bound : ℕ} → Power n bound → 0 < bound
 power-positive p = omega (arith, pow-pos (p .k))
 
 -- One turn of the test
-
--- 1 shifted by n places is 2 ^ n in a word of 32 bits
-pub shifted-one : (n : ℕ) → n < 32 → 1 * 2 ^ n % 2 ^ 32 ≡ 2 ^ n
-shifted-one n h = shl-exact 1 n 32 (lit< tt) (omega arith) ∙ one-mul (2 ^ n)
 
 pub test-here : {bound : ℕ} (n : ℕ) → bound ≡ 2 ^ n → powerBelow (suc n) bound ≡ true
 unfolding powerBelow
@@ -67,12 +63,8 @@ test-power (suc n) bound t = go (ℕ-discrete bound (2 ^ n)) (test-power n bound
 
 -- What is accepted
 
-passed : (b : Bool) → _≡_ {A = ℕ} (cond b 0 3) 0 → b ≡ true
-passed true e = refl
-passed false e = absurd (omega arith)
-
 pub accepted-bound : (bound : ℕ) → boundRefusal bound ≡ 0 → Power 32 bound
-accepted-bound bound e = test-power 32 bound (passed (powerBelow 32 bound) e)
+accepted-bound bound e = test-power 32 bound (passed (powerBelow 32 bound) 2 e)
 
 pub bound-accepted : (bound : ℕ) → Power 32 bound → boundRefusal bound ≡ 0
 bound-accepted bound p = ap (λ (b : Bool). cond b 0 3) (power-test 32 bound p)

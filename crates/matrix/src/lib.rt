@@ -6,8 +6,7 @@ mod negacyclic;
 mod wrapping;
 
 use crate::cyclic::cyclic;
-use crate::halves::differences;
-use crate::halves::sums;
+use crate::halves::sums_and_differences;
 use crate::negacyclic::negacyclic_even;
 use crate::negacyclic::negacyclic_odd;
 use crate::wrapping::add;
@@ -22,10 +21,12 @@ ghost use Rattle.matrix.specs.Column.{mdsColumn};
 pub fn generated_function(input: [u64; 16]) -> [u64; 16]
     ensures { λ r. ⌜ r ≡ tab 16 0 (λ i. (16 * rowSum mdsColumn input i) % 2 ^ 64) ⌝ }
 {
-    let added = cyclic(sums(input));
-    let subtracted = differences(input);
-    let even = negacyclic_even(subtracted);
-    let odd = negacyclic_odd(subtracted);
+    let halves = sums_and_differences(input);
+    let sums = halves.sums;
+    let differences = halves.differences;
+    let added = cyclic(sums);
+    let even = negacyclic_even(differences);
+    let odd = negacyclic_odd(differences);
     let node_152 = added[0];
     let node_154 = added[1];
     let node_156 = added[2];

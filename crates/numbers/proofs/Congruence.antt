@@ -11,7 +11,6 @@ use native.Mathlib.Nat.{
   mod-add-div,
   mod-eq-of-lt,
   mod-mod,
-  mod-self,
   mod-zero,
   mul-assoc,
   mul-comm,
@@ -21,7 +20,6 @@ use native.Mathlib.Nat.{
   mul-zero,
   pow-suc,
   pow-zero,
-  zero-mod,
 }
 use native.Mathlib.Omega.{arith}
 use lib.Pow.{pow-add}
@@ -48,10 +46,6 @@ one-pow zero = pow-zero 1
 one-pow (suc k) = pow-suc 1 k ∙ mul-one (1 ^ k) ∙ one-pow k
 
 -- Remainders
-
--- both summands may be reduced first
-pub mod-add : (a b m : ℕ) → (a + b) % m ≡ (a % m + b % m) % m
-mod-add = add-mod
 
 -- the left factor may be reduced first
 pub mod-mul-left : (a b m : ℕ) → a % m * b % m ≡ a * b % m
@@ -103,10 +97,6 @@ cong-eq {m} e = record { same = ap (λ (n : ℕ). n % m) e }
 pub cong-mod : {m a : ℕ} → Cong m (a % m) a
 cong-mod {m} {a} = record { same = mod-mod a m }
 
--- the modulus and zero
-pub cong-self : {m : ℕ} → Cong m m 0
-cong-self {m} = record { same = mod-self m ∙ sym (zero-mod m) }
-
 -- a number and the same with a multiple of the modulus added
 pub cong-multiple : {m a : ℕ} (k : ℕ) → Cong m (a + k * m) a
 cong-multiple {m} {a} k = record { same = add-mul-mod-self-right a k m }
@@ -121,7 +111,7 @@ cong-remainder h b< = h .same ∙ mod-eq-of-lt b<
 
 -- sums of congruent numbers
 pub cong-add : {m a b c d : ℕ} → Cong m a b → Cong m c d → Cong m (a + c) (b + d)
-cong-add {m} {a} {b} {c} {d} h k = record { same = mod-add a c m ∙ rw (h .same, k .same) (sym (mod-add b d m)) }
+cong-add {m} {a} {b} {c} {d} h k = record { same = add-mod a c m ∙ rw (h .same, k .same) (sym (add-mod b d m)) }
 
 -- products of congruent numbers
 pub cong-mul : {m a b c d : ℕ} → Cong m a b → Cong m c d → Cong m (a * c) (b * d)

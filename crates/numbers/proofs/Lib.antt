@@ -11,4 +11,5 @@ pub mod Pigeonhole
 pub mod Power
 pub mod Roots
 pub mod Table
+pub mod Tests
 pub mod Trial

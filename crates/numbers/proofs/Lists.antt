@@ -97,8 +97,3 @@ total-exchange (suc n) m i j f =
 pub total-le : (n i : ℕ) {f g : ℕ → ℕ} → ((c : ℕ) → f c ≤ g c) → total n i f ≤ total n i g
 total-le zero i h = zero-le
 total-le (suc n) i h = omega (arith, h i, total-le n (suc i) h)
-
--- a sum of n numbers that are at most k
-pub total-bound : (n i k : ℕ) {f : ℕ → ℕ} → ((c : ℕ) → f c ≤ k) → total n i f ≤ n * k
-total-bound zero i k h = zero-le
-total-bound (suc n) i k h = omega (arith, h i, total-bound n (suc i) k h)

@@ -1,3 +1,2 @@
 -- What the walks of the functions that lend a record share.
-pub mod LocalWalk
 pub mod WordsWalk

@@ -1,35 +1,23 @@
--- The digest of a list: five words, the first of the sponge that absorbed it. Digests of rows: the first ones at the front of the room, and
--- where each stands.
+-- Digests of rows: the first ones at the front of the room, one more, and all.
 -- Assumes nothing.
 use mathlib.Core.List.{List, _++_, append-nil}
-use mathlib.Core.Path.{_≡_, ap, ap₂, _∙_}
-use Prim.Native.Nat.{ℕ, _+_, _*_, _/_, _%_, _≤_, _<_}
+use mathlib.Core.Path.{_≡_, ap, _∙_}
+use Prim.Native.Nat.{ℕ, _+_, _*_, _≤_}
 use native.Mathlib.Omega.{arith}
-use lib.ListN.{drop, getD, length, take, length-append, length-drop, drop-of-length-le}
-use lib.Seq.{length-take-le, paste}
+use lib.ListN.{drop, length, take, length-append, length-drop, drop-of-length-le}
+use lib.Seq.{paste}
 use Rattle.rows.specs.declared.row.Shape.{Shape}
-use Rattle.rows.specs.Rows.{digestCount, row, rowDigests}
 use Rattle.rows.specs.Table.{digestsIn, rowIn}
-use Rattle.rows.proofs.JoinedLaws.{joined-at, joined-length, joined-paste}
+use Rattle.rows.proofs.JoinedLaws.{joined-length, joined-paste}
 use Rattle.sponge.specs.declared.Domain.the-variants.{VariableLength}
 use Rattle.sponge.specs.declared.Tip5.{Tip5}
 use Rattle.sponge.specs.Digest.{digest, digestOf}
 use Rattle.sponge.specs.History.{paddedSteps, run}
 use Rattle.sponge.specs.Sponge.{start}
-use Rattle.sponge.proofs.HistoryLaws.{run-length}
-use Rattle.sponge.proofs.SpongeLaws.{start-length}
+use Rattle.sponge.proofs.DigestLaws.{digestOf-length}
 
--- a sponge that absorbed a list has sixteen words
-pub padded-sixteen : (ws : List ℕ) → length (run (paddedSteps ws) (start VariableLength) .state) ≡ 16
-padded-sixteen ws = run-length (paddedSteps ws) (start VariableLength) (start-length VariableLength)
-
--- five of them are the digest
-pub digestOf-length : (ws : List ℕ) → length (digestOf ws) ≡ 5
-unfolding digestOf digest
-digestOf-length ws = length-take-le 5 (run (paddedSteps ws) (start VariableLength) .state) (omega (arith, padded-sixteen ws))
-
--- the first five
-pub digestOf-take : (ws : List ℕ) {s : Tip5} → s ≡ run (paddedSteps ws) (start VariableLength) → take 5 (s .state) ≡ digestOf ws
+-- the digest is the first five words of the sponge that absorbed the list
+digestOf-take : (ws : List ℕ) {s : Tip5} → s ≡ run (paddedSteps ws) (start VariableLength) → take 5 (s .state) ≡ digestOf ws
 unfolding digestOf digest
 digestOf-take ws e = ap (λ (s : Tip5). take 5 (s .state)) e
 
@@ -61,17 +49,3 @@ module _ (words : List ℕ) (shape : Shape) (room : List ℕ) where
   -- all
   pub front-all : (n : ℕ) → length room ≡ n * 5 → front n ≡ digestsIn words shape n
   front-all n h = ap (λ (rest : List ℕ). digestsIn words shape n ++ rest) (drop-of-length-le room {i = n * 5} (omega arith)) ∙ append-nil (digestsIn words shape n)
-
--- digest r stands in words 5r to 5r + 4
-pub digest-at : (words : List ℕ) (columns rows width r j : ℕ) → r < digestCount columns rows → j < 5
-    → getD (rowDigests words columns rows width) (r * 5 + j) 0 ≡ getD (digestOf (row words columns rows width r)) j 0
-unfolding rowDigests
-digest-at words columns rows width r j there few =
-    joined-at _ 5 (digestCount columns rows) (λ i l. digestOf-length (row words columns rows width i)) (r * 5 + j) (omega arith)
-    ∙ ap₂ (λ (q k : ℕ). getD (digestOf (row words columns rows width q)) k 0) quotient place
-  where
-    quotient : (r * 5 + j) / 5 ≡ r
-    quotient = omega arith
-
-    place : (r * 5 + j) % 5 ≡ j
-    place = omega arith

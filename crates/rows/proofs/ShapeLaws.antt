@@ -5,8 +5,10 @@ use mathlib.Core.List.{List, [], _∷_}
 use mathlib.Core.Path.{_≡_, refl, ap, sym, _∙_}
 use Prim.Native.Nat.{ℕ, zero, suc, _*_, _≤_, _<_}
 use native.Mathlib.Omega.{arith}
-use lib.Dec.{T, eqb, eqb→eq}
+use borrow.Author.Tests.{eqb-true}
+use lib.Dec.{eqb}
 use lib.ListN.{length}
+use Rattle.numbers.proofs.Tests.{passed}
 use Rattle.rows.specs.declared.row.Shape.{Shape}
 use Rattle.rows.specs.Rows.{digestCount, rowsRefusal, sizeRefusal, widthRefusal}
 use Rattle.rows.specs.Table.{Table}
@@ -17,7 +19,7 @@ use Rattle.tip5.proofs.JudgeLaws.{accepted-below}
 -- A test t that code made where the definition has the test b
 
 pub test-passed : {t b : Bool} (n : ℕ) → t ≡ b → t ≡ true → 0 ≡ cond b 0 n
-test-passed n e passed = ap (λ (b : Bool). cond b 0 n) (sym passed ∙ e)
+test-passed n e taken = ap (λ (b : Bool). cond b 0 n) (sym taken ∙ e)
 
 pub test-failed : {t b : Bool} (n : ℕ) → t ≡ b → t ≡ false → n ≡ cond b 0 n
 test-failed n e failed = ap (λ (b : Bool). cond b 0 n) (sym failed ∙ e)
@@ -45,10 +47,6 @@ pub accepted-width : (width : ℕ) → widthRefusal width ≡ 0 → 0 < width
 accepted-width zero e = absurd (omega arith)
 accepted-width (suc n) e = omega arith
 
-passed : (b : Bool) → _≡_ {A = ℕ} (cond b 0 7) 0 → T b
-passed true e = tt
-passed false e = absurd (omega arith)
-
 -- words of a judged shape, and room for the digests
 pub accepted-rows : (words : List ℕ) (shape : Shape) (room : List ℕ) → rowsRefusal words (shape .columns) (shape .rows) (shape .width) room ≡ 0
     → Table words shape × (length room ≡ 5 * digestCount (shape .columns) (shape .rows))
@@ -61,7 +59,7 @@ accepted-rows words shape room e =
     let fits = none-first places (wordRefusal words ∷ []) (long .1) in (
       record {
         wide = accepted-width (shape .width) (wide .0);
-        size = eqb→eq (length words) all (passed (eqb (length words) all) (long .0));
+        size = eqb-true (length words) all (passed (eqb (length words) all) 6 (long .0));
         below = accepted-below words (none-first (wordRefusal words) [] (fits .1) .0);
       },
       accepted-length (5 * digestCount (shape .columns) (shape .rows)) room (fits .0),

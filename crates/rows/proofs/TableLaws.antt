@@ -1,8 +1,8 @@
 -- A table that was judged: its columns lie within the words, a row has as many words as the columns together, each below P, and word k of
 -- it is part k % width of column k / width, which a view of that column answers.
 -- Assumes nothing.
-use mathlib.Core.List.{List, [], _∷_}
-use mathlib.Core.Path.{_≡_, refl, ap, sym, _∙_}
+use mathlib.Core.List.{List}
+use mathlib.Core.Path.{_≡_, ap, sym, _∙_}
 use Prim.Native.Nat.{ℕ, _+_, _-_, _*_, _/_, _%_, _≤_, _<_}
 use native.Mathlib.Nat.{add-comm, le-mul-of-pos-right, mul-div-cancel, mul-le-mul-right}
 use native.Mathlib.Omega.{arith}
@@ -11,7 +11,7 @@ use lib.ListN.{drop, getD, length, take, length-drop}
 use lib.Seq.{getD-drop, getD-take, length-take-le}
 use Rattle.rows.specs.declared.row.Shape.{Shape}
 use Rattle.rows.specs.Column.{entry, wordAt}
-use Rattle.rows.specs.Rows.{columnOf, entryOf, joined, row}
+use Rattle.rows.specs.Rows.{columnOf, entryOf, row}
 use Rattle.rows.specs.Table.{Table, columnIn, entryIn, rowIn}
 use Rattle.sponge.proofs.BelowLaws.{drop-below, take-below}
 use Rattle.sponge.proofs.ListLaws.{part-of}
@@ -96,8 +96,3 @@ module _ {words : List ℕ} {shape : Shape} (t : Table words shape) where
   -- how many words that is
   pub rest-length : (r : ℕ) → r < shape .rows → (at : ℕ) → length (drop at (rowIn words shape r)) ≡ shape .columns * shape .width - at
   rest-length r h at = length-drop at (rowIn words shape r) ∙ ap (λ (n : ℕ). n - at) (row-length r h)
-
--- two columns of two entries of three parts, computed
-pub row-example : row (1 ∷ 2 ∷ 3 ∷ 4 ∷ 5 ∷ 6 ∷ 7 ∷ 8 ∷ 9 ∷ 10 ∷ 11 ∷ 12 ∷ []) 2 2 3 1 ≡ 4 ∷ 5 ∷ 6 ∷ 10 ∷ 11 ∷ 12 ∷ []
-unfolding row joined entryOf columnOf
-row-example = refl

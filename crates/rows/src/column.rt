@@ -66,12 +66,14 @@ pub struct Column<'a> {
 }
 
 impl<'a> Column<'a> {
+    // How many rows the view has.
     pub fn num_rows(self) -> CountAnswer
         ensures { λ r. ⌜ r ≡ rowCount (now (self .entry .elements)) (self .entry .stride) (self .entry .offset) ⌝ }
     {
         row_count(self.elements, self.stride, self.offset)
     }
 
+    // The entry in a row.
     pub fn get(self, row: usize) -> EntryAnswer
         ensures { λ r. ⌜ r ≡ entry (now (self .entry .elements)) (self .entry .stride) (self .entry .offset) row ⌝ }
     {

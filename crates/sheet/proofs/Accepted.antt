@@ -1,7 +1,6 @@
 -- What is known of a sheet that is accepted, and of its words.
 -- Assumes nothing.
 use mathlib.Core.Path.{_≡_, refl}
-use mathlib.Core.Bool.{Bool, true, false, cond}
 use mathlib.Core.List.{List, [], _∷_}
 use Prim.Native.Nat.{ℕ, zero, suc, _+_, _*_, _≤_, _<_}
 use native.Mathlib.Omega.{arith}
@@ -11,6 +10,7 @@ use lib.ListN.{length, getD}
 use Rattle.numbers.specs.Lists.{tab}
 use Rattle.numbers.specs.Modulus.{P}
 use Rattle.numbers.proofs.Lists.{getD-tab-all}
+use Rattle.numbers.proofs.Tests.{passed}
 use Rattle.tip5.specs.Field.{rawOf}
 use Rattle.tip5.specs.Judge.{first, wordRefusal}
 use Rattle.tip5.proofs.FieldLaws.{rawOf-below}
@@ -31,11 +31,6 @@ none-refuses [] e k = refl
 none-refuses (zero ∷ ns) e zero = refl
 none-refuses (zero ∷ ns) e (suc k) = none-refuses ns e k
 none-refuses (suc n ∷ ns) e k = absurd (omega arith)
-
--- a test that does not refuse has passed
-passed : (b : Bool) (n : ℕ) → cond b 0 (suc n) ≡ 0 → b ≡ true
-passed true n e = refl
-passed false n e = absurd (omega arith)
 
 -- a sheet that is not refused
 pub accepted : (sheet : List ℕ) → sheetRefusal sheet ≡ 0 → Accepted sheet

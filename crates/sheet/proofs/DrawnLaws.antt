@@ -1,15 +1,14 @@
 -- A draw from a seed: it is refused by nothing but 6, and its line goes by whether all indices were found.
 -- Assumes nothing.
-use mathlib.Core.Bool.{cond}
 use mathlib.Core.List.{List, [], _∷_, _++_, append-nil}
-use mathlib.Core.Path.{_≡_, refl, ap, ap₂, sym, subst, _∙_}
-use Prim.Native.Nat.{ℕ, zero, suc, _^_, _≤_, _<_}
+use mathlib.Core.Path.{_≡_, refl, ap, ap₂, _∙_}
+use Prim.Native.Nat.{ℕ, _^_, _≤_, _<_}
 use native.Mathlib.Decide.{decLt}
 use native.Mathlib.Omega.{arith}
 use borrow.Author.Tests.{le-ltb, lt-ltb}
 use lib.ListN.{drop-of-length-le, length}
 use Rattle.draws.specs.declared.DrawAnswer.{DrawAnswer}
-use Rattle.draws.specs.Answers.{drawAnswer, drawRefusal, foundRefusal, inFront, sampleIndices, sampledSlice}
+use Rattle.draws.specs.Answers.{drawAnswer, drawRefusal, inFront, sampleIndices, sampledSlice}
 use Rattle.draws.specs.Bound.{boundRefusal}
 use Rattle.draws.specs.Draw.{Draw, draw, nothing}
 use Rattle.draws.proofs.BoundLaws.{bound-accepted}
@@ -19,7 +18,7 @@ use Rattle.sponge.specs.History.{paddedSteps}
 use Rattle.sponge.specs.Sponge.{start}
 use Rattle.sponge.proofs.HistoryLaws.{run-below}
 use Rattle.sponge.proofs.SpongeLaws.{start-below}
-use Rattle.tip5.specs.Judge.{first, unless, wordRefusal}
+use Rattle.tip5.specs.Judge.{first, unless}
 use Rattle.tip5.proofs.AnswerLaws.{unless-granted}
 use Rattle.tip5.proofs.JudgeLaws.{below-accepted}
 use Rattle.sheet.specs.Answer.{drawnLine, seededBy}

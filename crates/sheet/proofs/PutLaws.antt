@@ -1,6 +1,6 @@
 -- Bytes that are written one after another into a line.
 -- Assumes nothing.
-use mathlib.Core.Path.{_≡_, ap, _∙_}
+use mathlib.Core.Path.{_≡_, ap, subst, _∙_}
 use mathlib.Core.List.{List, [], _∷_, _++_}
 use Prim.Native.Nat.{ℕ, suc, _+_, _≤_}
 use native.Mathlib.Nat.{add-assoc, add-suc, add-zero, suc-add, zero-add}
@@ -31,3 +31,7 @@ put-front {k} {xs = xs} p h = record {
   stored = p .stored ∙ sets-eq xs k 0 (rw (zero-add (length xs)) h) ∙ ap (λ (n : ℕ). xs ++ drop n k) (zero-add (length xs));
   counted = p .place ∙ zero-add (length xs);
 }
+
+-- and of bytes that are equal to them
+pub front-same : {before xs ys after : List ℕ} {count : ℕ} → xs ≡ ys → Front before xs after count → Front before ys after count
+front-same {before} {after = after} {count = count} e f = subst (λ (bytes : List ℕ). Front before bytes after count) e f

@@ -9,7 +9,6 @@ use lib.ListN.{length, take}
 use Rattle.draws.specs.Draw.{draw}
 use Rattle.sponge.specs.Digest.{digestOf}
 use Rattle.tip5.specs.Field.{valueOf}
-use Rattle.tip5.specs.Judge.{unless}
 use Rattle.tip5.proofs.AnswerLaws.{unless-granted, unless-refused}
 use Rattle.sheet.specs.declared.header.Header.{Header}
 use Rattle.sheet.specs.declared.header.HeaderAnswer.{HeaderAnswer}

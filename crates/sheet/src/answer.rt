@@ -12,7 +12,7 @@ use tip5::refusal;
 ghost use mathlib.Core.List.{_++_, map};
 ghost use mathlib.Core.Path.{_≡_};
 ghost use Prim.Native.Nat.{ℕ, _+_, _*_, _^_, _≤_, _<_};
-ghost use lib.ListN.{drop, getD, length, take};
+ghost use lib.ListN.{drop, getD, length};
 ghost use Rattle.numbers.specs.Modulus.{P};
 ghost use Rattle.sheet.specs.Sheet.{wordsOf};
 ghost use Rattle.draws.specs.Draw.{draw};

@@ -1,8 +1,7 @@
--- Steps and lists of steps: sponges stay sixteen words below P, lists of steps are run one after the other, and a padded absorb is a
--- list of accepted steps.
+-- Steps and lists of steps: sponges stay sixteen words below P, and a padded absorb is a list of accepted steps.
 -- Assumes nothing.
-use mathlib.Core.List.{List, [], _∷_, _++_, map}
-use mathlib.Core.Path.{_≡_, refl, ap, _∙_}
+use mathlib.Core.List.{List, [], _∷_, map}
+use mathlib.Core.Path.{_≡_, ap, _∙_}
 use Prim.Native.Nat.{ℕ, _+_, _/_, _≤_, _<_}
 use lib.ListN.{drop, length, take, length-map}
 use Rattle.sponge.specs.declared.Tip5.{Tip5}
@@ -38,18 +37,6 @@ pub run-below : (ts : List Step) (s : Tip5) → Below (s .state) → Below (run 
 unfolding run
 run-below [] s h = h
 run-below (t ∷ ts) s h = run-below ts (after t s) (after-below t s)
-
--- One list after another
-
-pub run-append : (ts us : List Step) (s : Tip5) → run (ts ++ us) s ≡ run us (run ts s)
-unfolding run
-run-append [] us s = refl
-run-append (t ∷ ts) us s = run-append ts us (after t s)
-
-pub accepted-append : (ts us : List Step) (s : Tip5) → Accepted ts s → Accepted us (run ts s) → Accepted (ts ++ us) s
-unfolding run
-accepted-append [] us s a b = b
-accepted-append (t ∷ ts) us s a b = (a .0, accepted-append ts us (after t s) (a .1) b)
 
 -- A padded absorb
 

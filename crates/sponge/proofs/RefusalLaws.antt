@@ -1,15 +1,16 @@
 -- The first of several refusals: it is none where each is none, and the other way round; an early answer is the first. The refusal of
 -- a length.
 -- Assumes nothing.
-use mathlib.Core.Bool.{Bool, true, false, cond}
-use mathlib.Core.List.{List, _∷_}
+use mathlib.Core.List.{List, [], _∷_}
 use mathlib.Core.Path.{_≡_, refl, ap, sym, _∙_}
 use Prim.Native.Nat.{ℕ, zero, suc}
 use native.Mathlib.Omega.{arith}
-use borrow.Author.Tests.{eq-eqb, ne-eqb}
-use lib.Dec.{T, eqb, eqb→eq}
+use borrow.Author.Tests.{eq-eqb, eqb-true, ne-eqb}
+use lib.Dec.{eqb}
 use lib.ListN.{length}
+use Rattle.numbers.proofs.Tests.{passed}
 use Rattle.tip5.specs.Judge.{first, lengthRefusal}
+use Rattle.tip5.proofs.AnswerLaws.{first-one}
 
 pub first-none : {n : ℕ} (ns : List ℕ) → n ≡ 0 → first ns ≡ 0 → first (n ∷ ns) ≡ 0
 first-none ns e h = ap (λ (k : ℕ). first (k ∷ ns)) e ∙ h
@@ -27,6 +28,10 @@ first-stops {n = suc n} ns e some = e
 pub first-goes-on : {r m n : ℕ} (ns : List ℕ) → m ≡ n → m ≡ 0 → r ≡ first ns → r ≡ first (n ∷ ns)
 first-goes-on ns e none h = h ∙ ap (λ (k : ℕ). first (k ∷ ns)) (sym none ∙ e)
 
+-- the same of the last refusal
+pub first-ends : {r m n l : ℕ} → m ≡ n → m ≡ 0 → r ≡ l → r ≡ first (n ∷ l ∷ [])
+first-ends {l = l} e none h = first-goes-on (l ∷ []) e none (h ∙ sym (first-one l))
+
 -- Lengths
 
 pub length-accepted : {n : ℕ} (ws : List ℕ) → length ws ≡ n → lengthRefusal n ws ≡ 0
@@ -35,9 +40,5 @@ length-accepted {n} ws e = rw (eq-eqb (length ws) n e)
 pub length-refused : {n : ℕ} (ws : List ℕ) → (length ws ≡ n → ⊥) → lengthRefusal n ws ≡ 2
 length-refused {n} ws h = rw (ne-eqb (length ws) n h)
 
-passed : (b : Bool) → _≡_ {A = ℕ} (cond b 0 2) 0 → T b
-passed true e = tt
-passed false e = absurd (omega arith)
-
 pub accepted-length : (n : ℕ) (ws : List ℕ) → lengthRefusal n ws ≡ 0 → length ws ≡ n
-accepted-length n ws e = eqb→eq (length ws) n (passed (eqb (length ws) n) e)
+accepted-length n ws e = eqb-true (length ws) n (passed (eqb (length ws) n) 1 e)

@@ -1,5 +1,4 @@
 -- What a call in place answers, said as the answer by value: what it returns, and the record that it leaves.
-use mathlib.Core.List.{List}
 use Prim.Native.Nat.{ℕ}
 use Rattle.sponge.specs.declared.by_value.SpongeAnswer.{SpongeAnswer}
 use Rattle.sponge.specs.declared.by_value.SqueezeAnswer.{SqueezeAnswer}

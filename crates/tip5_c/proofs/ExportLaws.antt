@@ -38,7 +38,7 @@ pub answered : (move : List ℕ → List ℕ) (bytes : List ℕ) {a : StateAnswe
     → Exported move bytes r out
 answered move bytes h e same put =
     let ws = wordsOf bytes in
-    let judged : bytesRefusal bytes ≡ wordRefusal ws = simp (eq-eqb _ _ h) (first-one (wordRefusal ws)) in (
+    let judged = length-accepted bytes h in (
       same ∙ ap (λ (x : StateAnswer). x .refusal) e ∙ sym judged,
       put
           ∙ ap (λ (x : StateAnswer). unless (x .refusal) (bytesOf (x .state)) bytes) e

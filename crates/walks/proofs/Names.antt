@@ -37,5 +37,6 @@ pub use denote.Triple.Statement.{Triple}
 pub use denote.Triple.Table.{cited}
 pub use Rattle.walks.proofs.Closing.{WalkAnswering, WalkTo, answered, closed}
 pub use Rattle.walks.proofs.Lent.{Lends, WalkLeaving, copies-out, left-behind, puts-back}
+pub use Rattle.walks.proofs.Local.{lends-local, lent-at, takes-back}
 pub use Rattle.walks.proofs.Stating.{Answer, Promise, Promised, Stated}
-pub use Rattle.walks.proofs.Walk.{asks, calls, field-of, frees-at, lands-in, lands-spelt, lets, local}
+pub use Rattle.walks.proofs.Walk.{asks, calls, field-of, frees-at, lands-in, lands-spelt, lands-u8, lets, local}

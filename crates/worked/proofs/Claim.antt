@@ -1,8 +1,7 @@
 -- Every marked case is as it was worked by hand: one table, computed, under one claim.
 -- Assumes nothing.
-use mathlib.Core.List.{List, map}
+use mathlib.Core.List.{map}
 use mathlib.Core.Path.{_≡_, refl}
-use Prim.Native.Nat.{ℕ}
 use Rattle.draws.specs.Draw.{drawnFrom, indexOf}
 use Rattle.numbers.specs.Circulant.{rowSum}
 use Rattle.tip5.specs.Constants.{roundConstants}

@@ -1,10 +1,8 @@
 -- `judge_draw` meets its contract.
 -- Assumes nothing.
 use mathlib.Core.List.{[], _∷_}
-use mathlib.Core.Path.{sym, _∙_}
 use Rattle.draws.specs.Bound.{boundRefusal}
-use Rattle.sponge.proofs.RefusalLaws.{first-goes-on, first-stops}
-use Rattle.tip5.proofs.AnswerLaws.{first-one}
+use Rattle.sponge.proofs.RefusalLaws.{first-ends, first-stops}
 use borrow.Author.Needs.{needs}
 use Rattle.draws.proofs.judge_draw.Statement.{statement}
 use Rattle.draws.proofs.judge_draw.Tie as tie
@@ -22,10 +20,7 @@ judge-bound-requires : tie.Need-judge-bound-requires
 judge-bound-requires c κs = search needs
 
 returns-2 : tie.Need-returns-2
-returns-2 c =
-    let bound = c .before .before .before .before .before .args .bound in
-    first-goes-on (boundRefusal bound ∷ []) (c .before .before .judge-words .ensures) (c .before .if1 .left)
-    (c .judge-bound .ensures ∙ sym (first-one (boundRefusal bound)))
+returns-2 c = first-ends (c .before .before .judge-words .ensures) (c .before .if1 .left) (c .judge-bound .ensures)
 
 pub judge-draw-spec : {M : Type 1} → statement M
 judge-draw-spec =

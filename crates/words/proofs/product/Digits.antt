@@ -1,9 +1,9 @@
 -- Two numbers of two digits each in any base B, multiplied column by column: how large a column is, the product's upper
 -- two digits and its lower two. The functions cite these at B = 2 ^ 32.
 -- Assumes nothing.
-use mathlib.Core.Path.{_≡_, sym, ap, _∙_, subst}
-use Prim.Native.Nat.{ℕ, zero, suc, _+_, _*_, _/_, _%_, _<_}
-use native.Mathlib.Nat.{le-of-lt, mul-le-mul-left, mul-le-mul-right, mod-lt, div-add-mod', div-lt-iff-lt-mul, mul-add-mod-self-right, dvd-mul-right, mod-mod-of-dvd, mod-add-mod}
+use mathlib.Core.Path.{_≡_, sym, ap, _∙_}
+use Prim.Native.Nat.{ℕ, zero, _+_, _*_, _/_, _%_, _<_}
+use native.Mathlib.Nat.{le-of-lt, mul-le-mul-left, mul-le-mul-right, mod-lt, div-add-mod', div-lt-iff-lt-mul, mul-add-mod-self-right, dvd-mul-right, mod-mod-of-dvd}
 use native.Mathlib.Omega.{arith}
 use lib.Arith.{digits-lt, digits-div}
 

@@ -5,7 +5,8 @@ use mathlib.Core.Path.{_≡_, ap, refl, sym, _∙_}
 use Prim.Native.Nat.{ℕ, suc, _-_, _≤_}
 use native.Mathlib.Omega.{arith}
 use Rattle.draws.specs.Bound.{powerBelow}
-use Rattle.draws.proofs.BoundLaws.{shifted-one, test-ends, test-further, test-here}
+use Rattle.numbers.proofs.Tests.{shifted-one}
+use Rattle.draws.proofs.BoundLaws.{test-ends, test-further, test-here}
 use Rattle.draws.proofs.bound.judge_bound.Statement.{statement}
 use Rattle.draws.proofs.bound.judge_bound.Tie as tie
 
@@ -29,7 +30,7 @@ returns c =
     let l = c .before .before .loop in
     let n = l .k - 1 in
     let next : l .k ≡ suc n = omega arith in
-    sym (ap (λ (b : Bool). cond b 0 3) (l .inv .1 ∙ ap (λ (k : ℕ). powerBelow k (c .before .before .before .args .bound)) next ∙ test-here n (c .if1 .taken ∙ shifted-one n (omega arith))))
+    sym (ap (λ (b : Bool). cond b 0 3) (l .inv .1 ∙ ap (λ (k : ℕ). powerBelow k (c .before .before .before .args .bound)) next ∙ test-here n (c .if1 .taken ∙ shifted-one {w = 32} n (omega arith))))
 
 loop-less : tie.Need-loop-less Inv-loop μ-loop
 loop-less c = omega arith
@@ -39,7 +40,7 @@ loop-again c =
     let l = c .before .before .loop in
     let n = l .k - 1 in
     let next : l .k ≡ suc n = omega arith in
-    (omega arith, l .inv .1 ∙ ap (λ (k : ℕ). powerBelow k (c .before .before .before .args .bound)) next ∙ test-further n (λ e. c .if1 .left (e ∙ sym (shifted-one n (omega arith)))))
+    (omega arith, l .inv .1 ∙ ap (λ (k : ℕ). powerBelow k (c .before .before .before .args .bound)) next ∙ test-further n (λ e. c .if1 .left (e ∙ sym (shifted-one {w = 32} n (omega arith)))))
 
 returns-2 : tie.Need-returns-2 Inv-loop μ-loop
 returns-2 c =

@@ -5,7 +5,7 @@ use Prim.Native.Nat.{_-_, _*_, _≤_}
 use native.Mathlib.Omega.{arith}
 use lib.ListN.{length, length-set}
 use lib.Seq.{paste, paste-zero}
-use Rattle.rows.proofs.PasteLaws.{paste-more}
+use Rattle.numbers.proofs.Fill.{paste-more}
 use Rattle.sponge.proofs.RecordLaws.{sixteen}
 use Rattle.rows.proofs.hash_rows.put_digest.Statement.{statement}
 use Rattle.rows.proofs.hash_rows.put_digest.Tie as tie

@@ -6,9 +6,8 @@ use Prim.Native.Nat.{ℕ, _*_}
 use Rattle.rows.specs.declared.row.Shape.{Shape}
 use Rattle.rows.specs.Rows.{digestCount, sizeRefusal}
 use Rattle.rows.proofs.ShapeLaws.{accepted-width}
-use Rattle.sponge.proofs.RefusalLaws.{first-goes-on, first-stops}
+use Rattle.sponge.proofs.RefusalLaws.{first-ends, first-goes-on, first-stops}
 use Rattle.tip5.specs.Judge.{lengthRefusal, wordRefusal}
-use Rattle.tip5.proofs.AnswerLaws.{first-one}
 use borrow.Author.Needs.{needs}
 use Rattle.rows.proofs.judge.judge_rows.Statement.{statement}
 use Rattle.rows.proofs.judge.judge_rows.Tie as tie
@@ -57,8 +56,7 @@ returns-4 c =
     let a = c .before .before .before .before .before .before .before .before .before .args in
     first-goes-on (after-width (a .words .now) (a .shape) (a .room .now)) (c .before .before .before .before .before .before .judge-width .ensures) (c .before .before .before .before .before .if1 .left)
     (first-goes-on (after-size (a .words .now) (a .shape) (a .room .now)) (c .before .before .before .before .judge-size .ensures) (c .before .before .before .if2 .left)
-    (first-goes-on (wordRefusal (a .words .now) ∷ []) (c .before .before .judge-room .ensures) (c .before .if3 .left)
-    (c .judge-words .ensures ∙ sym (first-one (wordRefusal (a .words .now))))))
+    (first-ends (c .before .before .judge-room .ensures) (c .before .if3 .left) (c .judge-words .ensures)))
 
 pub judge-rows-spec : {M : Type 1} → statement M
 judge-rows-spec =

@@ -9,7 +9,7 @@ use Rattle.sponge.specs.Answers.{hashVarlen}
 use Rattle.sponge.specs.Digest.{digestOf}
 use Rattle.sponge.proofs.DigestLaws.{digestOf-below}
 use Rattle.tip5.specs.Field.{valueOf}
-use Rattle.tip5.specs.Judge.{unless, wordRefusal}
+use Rattle.tip5.specs.Judge.{wordRefusal}
 use Rattle.tip5.proofs.AnswerLaws.{unless-granted}
 use Rattle.tip5.proofs.JudgeLaws.{Below}
 use borrow.Author.Needs.{needs}

@@ -1,6 +1,6 @@
 -- `answer::drawn` meets its contract.
 -- Assumes nothing.
-use Rattle.draws.proofs.BoundLaws.{shifted-one}
+use Rattle.numbers.proofs.Tests.{shifted-one}
 use Rattle.sheet.proofs.DrawnLaws.{drawn-granted, seed-accepted}
 use borrow.Author.Needs.{needs}
 use Rattle.sheet.proofs.answer.drawn.Statement.{statement}

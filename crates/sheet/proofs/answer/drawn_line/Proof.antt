@@ -1,12 +1,9 @@
 -- `answer::drawn_line` meets its contract.
 -- Assumes nothing.
-use mathlib.Core.List.{List}
-use mathlib.Core.Path.{_≡_, ap, sym, subst, _∙_}
-use Prim.Native.Nat.{ℕ}
-use Rattle.tip5.specs.Judge.{unless}
+use mathlib.Core.Path.{sym}
 use Rattle.tip5.proofs.AnswerLaws.{unless-granted, unless-refused}
 use Rattle.sheet.specs.Line.{drawLine, refusedLine}
-use Rattle.sheet.specs.Put.{Front}
+use Rattle.sheet.proofs.PutLaws.{front-same}
 use borrow.Author.Needs.{needs}
 use Rattle.sheet.proofs.answer.drawn_line.Statement.{statement}
 use Rattle.sheet.proofs.answer.drawn_line.Tie as tie
@@ -17,7 +14,7 @@ refused-line-requires c κs = search needs
 returns : tie.Need-returns
 returns c =
     let start = c .before .before .before .before in
-    subst (λ (l : List ℕ). Front (start .args .out .now) l (c .refused-line .last .1 .0) (c .refused-line .result))
+    front-same
     (sym (unless-refused (start .args .answer .refusal) (drawLine (start .args .answer .squeezes) (start .args .indices .now)) (refusedLine (start .args .answer .refusal)) (c .before .before .if1 .taken)))
     (c .refused-line .ensures)
 
@@ -27,7 +24,7 @@ draw-line-requires c κs = search needs
 returns-2 : tie.Need-returns-2
 returns-2 c =
     let start = c .before .before .before .before in
-    subst (λ (l : List ℕ). Front (start .args .out .now) l (c .draw-line .last .1 .1 .0) (c .draw-line .result))
+    front-same
     (sym (unless-granted (drawLine (start .args .answer .squeezes) (start .args .indices .now)) (refusedLine (start .args .answer .refusal)) (c .before .before .if1 .left)))
     (c .draw-line .ensures)
 

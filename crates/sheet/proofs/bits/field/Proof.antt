@@ -1,19 +1,11 @@
 -- `bits::field` meets its contract.
 -- Assumes nothing.
-use mathlib.Core.Path.{_≡_, _∙_}
-use Prim.Native.Nat.{ℕ, _*_, _%_, _^_, _<_}
-use native.Mathlib.Nat.{one-mul}
-use native.Mathlib.Omega.{arith}
 use borrow.Author.Needs.{needs}
-use lib.Dec.{lit<}
-use lib.Pow.{pow-pos, shl-exact}
+use lib.Pow.{pow-pos}
+use Rattle.numbers.proofs.Tests.{shifted-one}
 use Rattle.sheet.specs.Bits.{field}
 use Rattle.sheet.proofs.bits.field.Statement.{statement}
 use Rattle.sheet.proofs.bits.field.Tie as tie
-
--- a one shifted left is a power of two
-power : (k : ℕ) → k < 64 → 1 * 2 ^ k % 2 ^ 64 ≡ 2 ^ k
-power k h = shl-exact 1 k 64 (lit< tt) (omega arith) ∙ one-mul (2 ^ k)
 
 mul-below : tie.Need-mul-below
 mul-below c = search needs
@@ -34,12 +26,12 @@ shl-result : tie.Need-shl-result
 shl-result c = search needs
 
 rem-result : tie.Need-rem-result
-rem-result c = rw (power (c .before .before .args .width) (c .before .before .pre .3)) (pow-pos (c .before .before .args .width))
+rem-result c = rw (shifted-one (c .before .before .args .width) (c .before .before .pre .3)) (pow-pos (c .before .before .args .width))
 
 returns : tie.Need-returns
 unfolding field
 returns c =
-    rw (power (c .before .before .args .width) (c .before .before .pre .3), c .number .ensures)
+    rw (shifted-one (c .before .before .args .width) (c .before .before .pre .3), c .number .ensures)
 
 pub field-spec : {M : Type 1} → statement M
 field-spec =

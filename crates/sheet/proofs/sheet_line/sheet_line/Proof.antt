@@ -1,10 +1,7 @@
 -- `sheet_line::sheet_line` meets its contract.
 -- Assumes nothing.
-use mathlib.Core.List.{List}
-use mathlib.Core.Path.{subst}
-use Prim.Native.Nat.{ℕ}
-use Rattle.sheet.specs.Put.{Front}
 use Rattle.sheet.proofs.SheetLineLaws.{judged-fields, judged-length, line-digest-by, line-draw-by, line-refused}
+use Rattle.sheet.proofs.PutLaws.{front-same}
 use borrow.Author.Needs.{needs}
 use Rattle.sheet.proofs.sheet_line.sheet_line.Statement.{statement}
 use Rattle.sheet.proofs.sheet_line.sheet_line.Tie as tie
@@ -18,23 +15,31 @@ refused-line-requires c κs = search needs
 returns : tie.Need-returns
 returns c =
     let start = c .before .before .before .before .before .before in
-    subst (λ (l : List ℕ). Front (start .args .out .now) l (c .refused-line .last .1 .0) (c .refused-line .result)) (line-refused (start .args .sheet .now) (c .before .before .before .before .judge-sheet .ensures) (c .before .before .if1 .taken)) (c .refused-line .ensures)
+    front-same
+    (line-refused (start .args .sheet .now) (c .before .before .before .before .judge-sheet .ensures) (c .before .before .if1 .taken)) (c .refused-line .ensures)
 
 digest-sheet-requires : tie.Need-digest-sheet-requires
-digest-sheet-requires c κs = judged-length (c .before .before .before .before .before .before .before .before .args .sheet .now) (c .before .before .before .before .before .before .judge-sheet .ensures) (c .before .before .before .before .if1 .left)
+digest-sheet-requires c κs =
+    judged-length (c .before .before .before .before .before .before .before .before .args .sheet .now) (c .before .before .before .before .before .before .judge-sheet .ensures) (c .before .before .before .before .if1 .left)
 
 returns-2 : tie.Need-returns-2
 returns-2 c =
     let start = c .before .before .before .before .before .before .before .before .before in
-    subst (λ (l : List ℕ). Front (start .args .out .now) l (c .digest-sheet .last .1 .1 .0) (c .digest-sheet .result)) (line-digest-by (start .args .sheet .now) (c .before .before .before .before .before .before .before .judge-sheet .ensures) (c .before .before .before .before .before .if1 .left) (c .before .before .if2 .taken)) (c .digest-sheet .ensures)
+    front-same
+    (line-digest-by (start .args .sheet .now) (c .before .before .before .before .before .before .before .judge-sheet .ensures) (c .before .before .before .before .before .if1 .left) (c .before .before .if2 .taken)) (c .digest-sheet .ensures)
 
 draw-sheet-requires : tie.Need-draw-sheet-requires
-draw-sheet-requires c κs = (judged-length (c .before .before .before .before .before .before .before .before .args .sheet .now) (c .before .before .before .before .before .before .judge-sheet .ensures) (c .before .before .before .before .if1 .left), judged-fields (c .before .before .before .before .before .before .before .before .args .sheet .now) (c .before .before .before .before .before .before .judge-sheet .ensures) (c .before .before .before .before .if1 .left))
+draw-sheet-requires c κs =
+    let sheet = c .before .before .before .before .before .before .before .before .args .sheet .now in
+    let judged = c .before .before .before .before .before .before .judge-sheet .ensures in
+    let good = c .before .before .before .before .if1 .left in
+    (judged-length sheet judged good, judged-fields sheet judged good)
 
 returns-3 : tie.Need-returns-3
 returns-3 c =
     let start = c .before .before .before .before .before .before .before .before .before in
-    subst (λ (l : List ℕ). Front (start .args .out .now) l (c .draw-sheet .last .1 .1 .1 .1 .1 .0) (c .draw-sheet .result)) (line-draw-by (start .args .sheet .now) (c .before .before .before .before .before .before .before .judge-sheet .ensures) (c .before .before .before .before .before .if1 .left) (c .before .before .if2 .left)) (c .draw-sheet .ensures)
+    front-same
+    (line-draw-by (start .args .sheet .now) (c .before .before .before .before .before .before .before .judge-sheet .ensures) (c .before .before .before .before .before .if1 .left) (c .before .before .if2 .left)) (c .draw-sheet .ensures)
 
 pub sheet-line-spec : {M : Type 1} → statement M
 sheet-line-spec =

@@ -1,10 +1,8 @@
 -- `judge::judge_hash_pair` meets its contract.
 -- Assumes nothing.
 use mathlib.Core.List.{[], _∷_}
-use mathlib.Core.Path.{sym, _∙_}
 use Rattle.tip5.specs.Judge.{lengthRefusal, wordRefusal}
-use Rattle.tip5.proofs.AnswerLaws.{first-one}
-use Rattle.sponge.proofs.RefusalLaws.{first-goes-on, first-stops}
+use Rattle.sponge.proofs.RefusalLaws.{first-ends, first-goes-on, first-stops}
 use borrow.Author.Needs.{needs}
 use Rattle.sponge.proofs.judge.judge_hash_pair.Statement.{statement}
 use Rattle.sponge.proofs.judge.judge_hash_pair.Tie as tie
@@ -47,8 +45,7 @@ returns-4 c =
     let words = wordRefusal (a .left .now) ∷ wordRefusal (a .right .now) ∷ [] in
     first-goes-on (lengthRefusal 5 (a .right .now) ∷ words) (c .before .before .before .before .before .before .judge-length .ensures) (c .before .before .before .before .before .if1 .left)
     (first-goes-on words (c .before .before .before .before .judge-length2 .ensures) (c .before .before .before .if2 .left)
-    (first-goes-on (wordRefusal (a .right .now) ∷ []) (c .before .before .judge-words .ensures) (c .before .if3 .left)
-    (c .judge-words2 .ensures ∙ sym (first-one (wordRefusal (a .right .now))))))
+    (first-ends (c .before .before .judge-words .ensures) (c .before .if3 .left) (c .judge-words2 .ensures)))
 
 pub judge-hash-pair-spec : {M : Type 1} → statement M
 judge-hash-pair-spec =

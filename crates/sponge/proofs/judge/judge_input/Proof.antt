@@ -1,10 +1,8 @@
 -- `judge::judge_input` meets its contract.
 -- Assumes nothing.
 use mathlib.Core.List.{[], _∷_}
-use mathlib.Core.Path.{sym, _∙_}
 use Rattle.tip5.specs.Judge.{wordRefusal}
-use Rattle.tip5.proofs.AnswerLaws.{first-one}
-use Rattle.sponge.proofs.RefusalLaws.{first-goes-on, first-stops}
+use Rattle.sponge.proofs.RefusalLaws.{first-ends, first-stops}
 use borrow.Author.Needs.{needs}
 use Rattle.sponge.proofs.judge.judge_input.Statement.{statement}
 use Rattle.sponge.proofs.judge.judge_input.Tie as tie
@@ -21,10 +19,7 @@ judge-words-requires : tie.Need-judge-words-requires
 judge-words-requires c κs = search needs
 
 returns-2 : tie.Need-returns-2
-returns-2 c =
-    let input = c .before .before .before .before .args .input .now in
-    first-goes-on (wordRefusal input ∷ []) (c .before .before .judge-sponge .ensures) (c .before .if1 .left)
-    (c .judge-words .ensures ∙ sym (first-one (wordRefusal input)))
+returns-2 c = first-ends (c .before .before .judge-sponge .ensures) (c .before .if1 .left) (c .judge-words .ensures)
 
 pub judge-input-spec : {M : Type 1} → statement M
 judge-input-spec =

@@ -1,10 +1,8 @@
 -- `judge::judge_places` meets its contract.
 -- Assumes nothing.
 use mathlib.Core.List.{[], _∷_}
-use mathlib.Core.Path.{sym, _∙_}
 use Rattle.tip5.specs.Judge.{wordRefusal}
-use Rattle.tip5.proofs.AnswerLaws.{first-one}
-use Rattle.sponge.proofs.RefusalLaws.{first-goes-on, first-stops}
+use Rattle.sponge.proofs.RefusalLaws.{first-ends, first-stops}
 use borrow.Author.Needs.{needs}
 use Rattle.sponge.proofs.judge.judge_places.Statement.{statement}
 use Rattle.sponge.proofs.judge.judge_places.Tie as tie
@@ -20,10 +18,7 @@ judge-sponge-requires : tie.Need-judge-sponge-requires
 judge-sponge-requires c κs = search needs
 
 returns-2 : tie.Need-returns-2
-returns-2 c =
-    let state = c .before .before .before .before .args .sponge .state in
-    first-goes-on (wordRefusal state ∷ []) (c .before .before .judge-length .ensures) (c .before .if1 .left)
-    (c .judge-sponge .ensures ∙ sym (first-one (wordRefusal state)))
+returns-2 c = first-ends (c .before .before .judge-length .ensures) (c .before .if1 .left) (c .judge-sponge .ensures)
 
 pub judge-places-spec : {M : Type 1} → statement M
 judge-places-spec =

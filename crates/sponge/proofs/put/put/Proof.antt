@@ -1,12 +1,11 @@
 -- `put::put` meets its contract.
 -- Assumes nothing.
-use mathlib.Core.Path.{_≡_, refl, ap, sym, _∙_}
-use Prim.Native.Nat.{ℕ, _+_, _-_, _≤_, _<_}
-use mathlib.Core.List.{List}
-use native.Mathlib.Numerals.{add-one}
+use mathlib.Core.Path.{_≡_, refl, ap, _∙_}
+use Prim.Native.Nat.{_-_, _≤_, _<_}
 use native.Mathlib.Omega.{arith}
-use lib.ListN.{length, set, getD, length-set}
-use lib.Seq.{paste, paste-zero, paste-suc}
+use lib.ListN.{length, length-set}
+use lib.Seq.{paste, paste-zero}
+use Rattle.numbers.proofs.Fill.{paste-more}
 use Rattle.sponge.proofs.put.put.Statement.{statement}
 use Rattle.sponge.proofs.put.put.Tie as tie
 
@@ -44,8 +43,11 @@ loop-again : tie.Need-loop-again Inv-loop μ-loop
 loop-again c =
     let l = c .before .before .loop in
     let s = c .before .before .before in
-    let h : l .i < length (s .args .part .now) = omega arith in
-    (omega arith, simp length-set (l .inv .1), ap (λ (w : List ℕ). set w (s .args .at + l .i) (getD (s .args .part .now) (l .i) 0)) (l .inv .2) ∙ paste-suc (s .args .words .now) (s .args .at) (s .args .part .now) (l .i) 0 (omega arith) h ∙ ap (paste (s .args .words .now) (s .args .at) (s .args .part .now)) (sym (add-one (l .i))))
+    let h : l .i < length (s .args .part .now) = omega arith in (
+      omega arith,
+      simp length-set (l .inv .1),
+      paste-more (s .args .words .now) (s .args .at) (s .args .part .now) (l .i) (omega arith) h (l .inv .2) refl refl,
+    )
 
 same-length : tie.Need-same-length Inv-loop μ-loop
 same-length c = c .before .loop .inv .1

@@ -1,7 +1,7 @@
 -- `column::Column::get` meets its contract: a walk of its MIR, by hand. The view is taken apart, and `entry` is called on its parts
 -- and the row. All that the proof knows of `entry` is that it meets its contract.
 -- Assumes nothing.
-use Rattle.walks.proofs.Names.{_≡_, refl, ℕ, List, [], _∷_, length, URA, w64, Val, vint, id⊢, monoR, Lft, Share, ftrue, fsep, Heap, Calls, Loops, Atoms, FmC}
+use Rattle.walks.proofs.Names.{refl, ℕ, List, [], _∷_, length, URA, w64, Val, vint, id⊢, monoR, Lft, Share, ftrue, fsep, Heap, Calls, Loops, Atoms, FmC}
 use Rattle.walks.proofs.Names.{givenOf, tables}
 use Rattle.walks.proofs.Names.{Given, raw, _$_, _∵_, !, qed, by, move, use1, look, init, of-opd, and-then, no-more, returns, enter, alloc1, alloc0, params1}
 use Rattle.walks.proofs.Names.{pass1, pass0, free0}
