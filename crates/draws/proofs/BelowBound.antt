@@ -11,7 +11,7 @@ use Rattle.draws.specs.Answers.{drawRefusal, drawn}
 use Rattle.draws.specs.Draw.{draw, drawnFrom, fromTen, fromWords, indexOf, nothing, skipped}
 use Rattle.sponge.specs.declared.Tip5.{Tip5}
 use Rattle.sponge.specs.Sponge.{rate, squeezed}
-use Rattle.tip5.specs.Field.{valueOf}
+use Rattle.rounds.specs.Field.{valueOf}
 use Rattle.tip5.specs.Judge.{unless}
 use Rattle.draws.proofs.AnswerLaws.{accepted-draw}
 use Rattle.draws.proofs.BoundLaws.{power-positive}

@@ -11,7 +11,7 @@ use Rattle.draws.specs.Draw.{drawnFrom, fromWords, indexOf, skipped}
 use Rattle.numbers.specs.Modulus.{P}
 use Rattle.tip5.specs.declared.b_field_element.ValueAnswer.{ValueAnswer}
 use Rattle.tip5.specs.Element.{elementOf, value}
-use Rattle.tip5.specs.Field.{valueOf}
+use Rattle.rounds.specs.Field.{valueOf}
 
 -- the value that the call on an element answers
 pub value-answered : {a : ValueAnswer} (w : ℕ) → w < P → a ≡ value (elementOf w) → a .value .0 ≡ valueOf w

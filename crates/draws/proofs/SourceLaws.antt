@@ -16,7 +16,7 @@ use Rattle.draws.specs.Source.{Loop, SourceDraw}
 use Rattle.draws.specs.Source.Loop.{full, refill, skip, push}
 use Rattle.sponge.specs.declared.Tip5.{Tip5}
 use Rattle.sponge.specs.Sponge.{rate, squeezed}
-use Rattle.tip5.specs.Field.{valueOf}
+use Rattle.rounds.specs.Field.{valueOf}
 use Rattle.tip5.specs.Judge.{unless}
 use Rattle.draws.proofs.AllowanceLaws.{accepted-all}
 use Rattle.draws.proofs.DrawLaws.{draw-none}

@@ -11,7 +11,8 @@ use Rattle.sponge.specs.Sponge.{rate, squeezed}
 use Rattle.sponge.specs.WalkBack.{Accepted}
 use Rattle.sponge.proofs.SpongeLaws.{rate-below, squeezed-below}
 use Rattle.tip5.proofs.AnswerLaws.{unless-granted}
-use Rattle.tip5.proofs.JudgeLaws.{Below, accepted-below, below-accepted}
+use Rattle.rounds.specs.Field.{Below}
+use Rattle.tip5.proofs.JudgeLaws.{accepted-below, below-accepted}
 
 pub squeezed-ten : {a : SqueezeAnswer} (s : Tip5) → a ≡ squeeze s → squeezeRefusal s ≡ 0 → a .ten ≡ rate s
 squeezed-ten s e none = ap (λ (a : SqueezeAnswer). a .ten) e ∙ unless-granted (rate s) (replicate 10 0) none

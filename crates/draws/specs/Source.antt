@@ -5,7 +5,7 @@ use Prim.Native.Nat.{ℕ, suc}
 use Rattle.draws.specs.Draw.{Draw, indexOf, nothing, skipped}
 use Rattle.sponge.specs.declared.Tip5.{Tip5}
 use Rattle.sponge.specs.Sponge.{rate, squeezed}
-use Rattle.tip5.specs.Field.{valueOf}
+use Rattle.rounds.specs.Field.{valueOf}
 
 -- the loop ends, and comes to a draw: with this many indices still wanted, this rest of the buffer, and this sponge
 pub data Loop (bound : ℕ) : (wanted : ℕ) (buffer : List ℕ) → Tip5 → Draw → Type 0 where

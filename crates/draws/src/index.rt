@@ -7,7 +7,7 @@ ghost use lib.ListN.{getD, length};
 ghost use Rattle.draws.specs.Draw.{drawnFrom, fromWords, indexOf};
 ghost use Rattle.draws.specs.Extended.{Extended};
 ghost use Rattle.numbers.specs.Modulus.{P};
-ghost use Rattle.tip5.specs.Field.{valueOf};
+ghost use Rattle.rounds.specs.Field.{valueOf};
 
 // The value that draws nothing: P - 1.
 const SKIPPED: u64 = 18446744069414584320;

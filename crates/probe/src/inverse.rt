@@ -1,7 +1,7 @@
 // The way back: the inverse of the permutation and of a round.
 use tip5::inverse;
 ghost use mathlib.Core.Path.{_≡_};
-ghost use Rattle.tip5.specs.Inverse.{invPermuted, invRound};
+ghost use Rattle.rounds.specs.Inverse.{invPermuted, invRound};
 ghost use Rattle.tip5.specs.Judge.{unless};
 ghost use Rattle.tip5.specs.Permutation.{roundSliceRefusal, sliceRefusal};
 

@@ -8,8 +8,8 @@ ghost use Rattle.matrix.specs.Column.{mdsColumn};
 ghost use Rattle.tip5.specs.Judge.{unless};
 ghost use Rattle.tip5.specs.Permutation.{roundSliceRefusal, sliceRefusal};
 ghost use Rattle.tip5.specs.Permutation as Permutation;
-ghost use Rattle.tip5.specs.Round.{permuted};
-ghost use Rattle.tip5.specs.Round as Round;
+ghost use Rattle.rounds.specs.Round.{permuted};
+ghost use Rattle.rounds.specs.Round as Round;
 ghost use Rattle.probe.specs.Answers.{traceAnswer};
 
 #[no_mangle]

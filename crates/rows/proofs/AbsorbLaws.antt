@@ -10,7 +10,7 @@ use Rattle.sponge.specs.Answers.{absorb}
 use Rattle.sponge.specs.Sponge.{absorbed}
 use Rattle.sponge.proofs.AcceptedLaws.{absorb-accepted}
 use Rattle.tip5.proofs.AnswerLaws.{unless-granted}
-use Rattle.tip5.proofs.JudgeLaws.{Below}
+use Rattle.rounds.specs.Field.{Below}
 
 -- the sponge that it answers
 pub absorb-granted : {a : SpongeAnswer} (s : Tip5) (ten : List ℕ) → a ≡ absorb s ten → length ten ≡ 10 → Below (s .state) → Below ten

@@ -10,7 +10,7 @@ use native.Mathlib.Decide.{decLt}
 use lib.Dec.{lit<}
 use lib.ListN.{drop, getD, length, take, length-append, List·getD-append}
 use lib.Seq.{drop-at, drop-drop, getD-append-add, paste, take-at}
-use Rattle.tip5.proofs.JudgeLaws.{Below}
+use Rattle.rounds.specs.Field.{Below}
 use Rattle.sponge.proofs.BelowLaws.{append-below}
 use Rattle.rows.specs.Rows.{joined}
 

@@ -15,7 +15,7 @@ use Rattle.rows.specs.Rows.{columnOf, entryOf, row}
 use Rattle.rows.specs.Table.{Table, columnIn, entryIn, rowIn}
 use Rattle.sponge.proofs.BelowLaws.{drop-below, take-below}
 use Rattle.sponge.proofs.ListLaws.{part-of}
-use Rattle.tip5.proofs.JudgeLaws.{Below}
+use Rattle.rounds.specs.Field.{Below}
 use Rattle.rows.proofs.JoinedLaws.{joined-at, joined-below, joined-length}
 
 -- n words from place a on are n where so many are there

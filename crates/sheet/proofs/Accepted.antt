@@ -11,9 +11,9 @@ use Rattle.numbers.specs.Lists.{tab}
 use Rattle.numbers.specs.Modulus.{P}
 use Rattle.numbers.proofs.Lists.{getD-tab-all}
 use Rattle.numbers.proofs.Tests.{passed}
-use Rattle.tip5.specs.Field.{rawOf}
+use Rattle.rounds.specs.Field.{rawOf}
 use Rattle.tip5.specs.Judge.{first, wordRefusal}
-use Rattle.tip5.proofs.FieldLaws.{rawOf-below}
+use Rattle.rounds.proofs.FieldLaws.{rawOf-below}
 use Rattle.tip5.proofs.JudgeLaws.{below-accepted}
 use Rattle.sheet.specs.Sheet.{elementLimit, fieldRefusals, headerOf, refusals, sheetRefusal, value, valueRefusal, wordsOf}
 

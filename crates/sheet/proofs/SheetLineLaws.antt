@@ -8,7 +8,7 @@ use lib.Dec.{lit≤}
 use lib.ListN.{length, take}
 use Rattle.draws.specs.Draw.{draw}
 use Rattle.sponge.specs.Digest.{digestOf}
-use Rattle.tip5.specs.Field.{valueOf}
+use Rattle.rounds.specs.Field.{valueOf}
 use Rattle.tip5.proofs.AnswerLaws.{unless-granted, unless-refused}
 use Rattle.sheet.specs.declared.header.Header.{Header}
 use Rattle.sheet.specs.declared.header.HeaderAnswer.{HeaderAnswer}

@@ -7,7 +7,7 @@ use lib.ListN.{length, take}
 use lib.Seq.{take-at}
 use Rattle.numbers.proofs.Lists.{length-tab}
 use Rattle.sheet.specs.Sheet.{value, wordsOf}
-use Rattle.tip5.specs.Field.{rawOf}
+use Rattle.rounds.specs.Field.{rawOf}
 use Rattle.tip5.specs.Judge.{wordRefusal}
 use Rattle.sheet.proofs.Accepted.{words-good}
 

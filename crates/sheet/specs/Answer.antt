@@ -10,7 +10,7 @@ use Rattle.sponge.specs.declared.Tip5.{Tip5}
 use Rattle.sponge.specs.Digest.{digestOf}
 use Rattle.sponge.specs.History.{paddedSteps, run}
 use Rattle.sponge.specs.Sponge.{start}
-use Rattle.tip5.specs.Field.{valueOf}
+use Rattle.rounds.specs.Field.{valueOf}
 use Rattle.tip5.specs.Judge.{unless}
 use Rattle.sheet.specs.Line.{digestLine, drawLine, refusedLine}
 use Rattle.sheet.specs.Sheet.{headerOf, sheetRefusal, wordsOf}

@@ -5,7 +5,7 @@ use Prim.Native.Nat.{ℕ, _+_, _*_}
 use lib.Dec.{eqb, leb, ltb}
 use lib.ListN.{length, take, drop}
 use Rattle.numbers.specs.Lists.{tab}
-use Rattle.tip5.specs.Field.{rawOf}
+use Rattle.rounds.specs.Field.{rawOf}
 use Rattle.tip5.specs.Judge.{first, unless, wordRefusal}
 use Rattle.sheet.specs.declared.header.Header.{Header}
 use Rattle.sheet.specs.declared.header.HeaderAnswer.{HeaderAnswer}

@@ -21,7 +21,7 @@ ghost use Rattle.sheet.specs.Drawn.{Drawn};
 ghost use Rattle.sheet.specs.Line.{digestLine, drawLine, refusedLine};
 ghost use Rattle.sheet.specs.Put.{Front};
 ghost use Rattle.sponge.specs.Digest.{digestOf};
-ghost use Rattle.tip5.specs.Field.{valueOf};
+ghost use Rattle.rounds.specs.Field.{valueOf};
 ghost use Rattle.tip5.specs.Judge.{unless, wordRefusal};
 
 // The raw words of the first n elements, at the front of a buffer.

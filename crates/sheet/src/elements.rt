@@ -6,7 +6,7 @@ ghost use mathlib.Core.Path.{_≡_};
 ghost use Prim.Native.Nat.{_+_, _*_, _≤_};
 ghost use lib.ListN.{length};
 ghost use Rattle.sheet.specs.Sheet as Sheet;
-ghost use Rattle.tip5.specs.Field.{rawOf};
+ghost use Rattle.rounds.specs.Field.{rawOf};
 
 // The value of element i, whose eight bytes the sheet has.
 pub(crate) fn value(sheet: &[u8], i: usize) -> u64

@@ -8,7 +8,8 @@ use Rattle.sponge.specs.declared.step_back.StepKind.the-variants.{Squeez
 use Rattle.sponge.specs.declared.Tip5.{Tip5}
 use Rattle.sponge.specs.Answers.{absorbRefusal, hash10Refusal, hashPairRefusal, padRefusal, stepBackRefusal}
 use Rattle.tip5.specs.Judge.{lengthRefusal, wordRefusal}
-use Rattle.tip5.proofs.JudgeLaws.{Below, accepted-below, below-accepted}
+use Rattle.rounds.specs.Field.{Below}
+use Rattle.tip5.proofs.JudgeLaws.{accepted-below, below-accepted}
 use Rattle.sponge.proofs.RefusalLaws.{accepted-length, first-none, length-accepted, none-first}
 
 pub accepted-pad : (s : Tip5) (input : List ℕ) → padRefusal s input ≡ 0 → Below (s .state) × Below input

@@ -11,7 +11,8 @@ use Rattle.tip5.specs.declared.permutation.StateAnswer.{StateAnswer}
 use Rattle.tip5.specs.Judge.{unless, wordRefusal}
 use Rattle.tip5.specs.Permutation.{nextState}
 use Rattle.tip5.proofs.AnswerLaws.{unless-granted, unless-refused}
-use Rattle.tip5.proofs.JudgeLaws.{Below, below-accepted}
+use Rattle.rounds.specs.Field.{Below}
+use Rattle.tip5.proofs.JudgeLaws.{below-accepted}
 
 pub answer-granted : {A B : Type 0} (make : ℕ → A → B) {n m : ℕ} {t next : A} (room : A) → n ≡ m → n ≡ 0 → t ≡ next → make n t ≡ make m (unless m next room)
 answer-granted make {next = next} room e none same = ap₂ make e (same ∙ sym (unless-granted next room (sym e ∙ none)))

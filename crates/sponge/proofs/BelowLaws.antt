@@ -7,7 +7,7 @@ use lib.Dec.{lit<}
 use lib.ListN.{drop, replicate, take}
 use lib.Seq.{getD-drop}
 use Rattle.numbers.specs.Modulus.{P}
-use Rattle.tip5.proofs.JudgeLaws.{Below}
+use Rattle.rounds.specs.Field.{Below}
 
 pub append-below : (xs ys : List ℕ) → Below xs → Below ys → Below (xs ++ ys)
 append-below [] ys hx hy k = hy k

@@ -11,7 +11,7 @@ use Rattle.sponge.specs.Digest.{digest, digestOf, digestOfPair, digestOf
 use Rattle.sponge.specs.History.{paddedSteps}
 use Rattle.sponge.specs.Sponge.{start}
 use Rattle.numbers.specs.Lists.{tab}
-use Rattle.tip5.proofs.JudgeLaws.{Below}
+use Rattle.rounds.specs.Field.{Below}
 use Rattle.sponge.proofs.BelowLaws.{take-below}
 use Rattle.sponge.proofs.HistoryLaws.{run-below, run-length}
 use Rattle.sponge.proofs.ListLaws.{tab-take}

@@ -11,7 +11,7 @@ use Rattle.sponge.specs.History.Step.{squeeze, absorb}
 use Rattle.sponge.specs.Padding.{lastTen, padded}
 use Rattle.sponge.specs.Sponge.{absorbed}
 use Rattle.sponge.specs.WalkBack.{Accepted}
-use Rattle.tip5.proofs.JudgeLaws.{Below}
+use Rattle.rounds.specs.Field.{Below}
 use Rattle.sponge.proofs.AcceptedLaws.{absorb-accepted, accepted-pad}
 use Rattle.sponge.proofs.PaddingLaws.{Tens, padded-last, padded-length, padded-more, padded-tens}
 use Rattle.sponge.proofs.SpongeLaws.{absorbed-below, absorbed-length, squeezed-below, squeezed-length}

@@ -8,7 +8,7 @@ use lib.Dec.{lit<}
 use lib.ListN.{drop, length, replicate, take, length-append, length-drop, length-replicate, length-take}
 use Rattle.sponge.specs.Padding.{lastTen, padded, tens}
 use Rattle.sponge.specs.Sponge.{one}
-use Rattle.tip5.proofs.JudgeLaws.{Below}
+use Rattle.rounds.specs.Field.{Below}
 use Rattle.sponge.proofs.BelowLaws.{append-below, cons-below, drop-below, replicate-below, take-below}
 
 -- an input of ten words or more

@@ -11,9 +11,10 @@ use Rattle.sponge.specs.declared.Domain.the-variants.{VariableLength, Fi
 use Rattle.sponge.specs.declared.Tip5.{Tip5}
 use Rattle.sponge.specs.Sponge.{absorbed, one, overwrite, permute, rate, squeezed, start, unabsorbed, unpermute, unsqueezed}
 use Rattle.numbers.specs.Lists.{tab}
-use Rattle.tip5.proofs.JudgeLaws.{Below, allBelow-below}
-use Rattle.tip5.proofs.RoundLaws.{permuted-below, permuted-length}
-use Rattle.tip5.proofs.RoundTrip.{invPermuted-permuted}
+use Rattle.rounds.specs.Field.{Below}
+use Rattle.tip5.proofs.JudgeLaws.{allBelow-below}
+use Rattle.rounds.proofs.RoundLaws.{permuted-below, permuted-length}
+use Rattle.rounds.proofs.RoundTrip.{invPermuted-permuted}
 use Rattle.sponge.proofs.BelowLaws.{append-below, drop-below, take-below}
 use Rattle.sponge.proofs.ListLaws.{tab-take}
 

@@ -5,8 +5,8 @@ use lib.ListN.{drop, replicate, take}
 use Rattle.sponge.specs.declared.Domain.{Domain}
 use Rattle.sponge.specs.declared.Domain.the-variants.{VariableLength, FixedLength}
 use Rattle.sponge.specs.declared.Tip5.{Tip5}
-use Rattle.tip5.specs.Inverse.{invPermuted}
-use Rattle.tip5.specs.Round.{permuted}
+use Rattle.rounds.specs.Inverse.{invPermuted}
+use Rattle.rounds.specs.Round.{permuted}
 
 -- the raw word of value 1
 abbrev pub one : ℕ

@@ -9,11 +9,8 @@ use borrow.Author.Tests.{lt-ltb}
 use lib.Dec.{T, lit<, ltb, ltb→lt}
 use lib.ListN.{getD}
 use Rattle.numbers.specs.Modulus.{P}
+use Rattle.rounds.specs.Field.{Below}
 use Rattle.tip5.specs.Judge.{allBelow, wordRefusal}
-
--- every word is below P; past the end stands 0
-abbrev pub Below : List ℕ → Type 0
-Below s = (k : ℕ) → getD s k 0 < P
 
 -- a test after a test: both pass
 both : (a b : Bool) → T (cond a b false) → T a × T b

@@ -7,11 +7,11 @@ use native.Mathlib.Omega.{arith}
 use lib.ListN.{getD}
 use Rattle.numbers.specs.Lists.{tab}
 use Rattle.numbers.proofs.Lists.{getD-tab₀}
-use Rattle.tip5.specs.Constants.{roundConstants}
-use Rattle.tip5.specs.Field.{rawOf}
-use Rattle.tip5.specs.Round.{bytewise, constant}
-use Rattle.tip5.specs.Tables.{rawConstants}
-use Rattle.tip5.proofs.BytewiseLaws.{bytewise-same}
+use Rattle.rounds.specs.Constants.{roundConstants}
+use Rattle.rounds.specs.Field.{rawOf}
+use Rattle.rounds.specs.Round.{bytewise, constant}
+use Rattle.rounds.specs.Tables.{rawConstants}
+use Rattle.rounds.proofs.BytewiseLaws.{bytewise-same}
 
 -- an entry
 pub entry-read : {table : List ℕ} (n : ℕ) (f : ℕ → ℕ) → table ≡ tab n 0 f → (k : ℕ) → k < n → getD table k 0 ≡ f k

@@ -1,24 +1,12 @@
 -- The laws of this crate's definitions.
 pub mod AnswerLaws
-pub mod BytewiseBelow
-pub mod BytewiseLaws
-pub mod BytewiseUndone
-pub mod CirculantLaws
-pub mod ConstantLaws
-pub mod DigitLaws
-pub mod FieldLaws
-pub mod FieldUndone
 pub mod HalvesLaws
 pub mod JudgeLaws
-pub mod LayersUndone
 pub mod LentTables
-pub mod LookupLaws
 pub mod MendedLaws
 pub mod MovesLaws
 pub mod PowersLaws
 pub mod ReducedLaws
-pub mod RoundLaws
-pub mod RoundTrip
 pub mod RowLaws
 pub mod SboxLaws
 pub mod TraceLaws

@@ -9,12 +9,12 @@ use lib.ListN.{length, getD}
 use Rattle.numbers.specs.Lists.{tab}
 use Rattle.numbers.specs.Modulus.{P}
 use Rattle.numbers.proofs.Lists.{getD-tab₀, tab-same, tab-unique}
-use Rattle.tip5.specs.Field.{mul, power}
+use Rattle.rounds.specs.Field.{mul, power}
 use Rattle.tip5.specs.Powers.{powers}
-use Rattle.tip5.proofs.FieldLaws.{mul-power, power-below, power-one}
-use Rattle.tip5.proofs.FieldUndone.{power-power}
-use Rattle.tip5.proofs.JudgeLaws.{Below}
-use Rattle.tip5.proofs.RoundLaws.{tab-below}
+use Rattle.rounds.proofs.FieldLaws.{mul-power, power-below, power-one}
+use Rattle.rounds.proofs.FieldUndone.{power-power}
+use Rattle.rounds.specs.Field.{Below}
+use Rattle.rounds.proofs.RoundLaws.{tab-below}
 
 -- a word that is a power is below P
 pub power-word : (v e : ℕ) {w : ℕ} → w ≡ power v e → w < P

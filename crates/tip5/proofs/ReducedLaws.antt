@@ -9,7 +9,7 @@ use lib.Dec.{lit<}
 use Rattle.numbers.specs.Congruence.{Cong}
 use Rattle.numbers.specs.Modulus.{P}
 use Rattle.numbers.proofs.Congruence.{cong-eq, cong-multiple, cong-sym, cong-trans}
-use Rattle.tip5.proofs.ConstantLaws.{largestMended}
+use Rattle.rounds.proofs.ConstantLaws.{largestMended}
 use Rattle.tip5.specs.Reduced.{folded, reduced}
 
 -- 2 ^ 64 is P more than what a fold puts in its place

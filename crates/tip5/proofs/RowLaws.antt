@@ -19,7 +19,7 @@ use Rattle.numbers.proofs.Congruence.{
   cong-trans,
 }
 use Rattle.numbers.proofs.Montgomery.{rInv-inverse}
-use Rattle.tip5.specs.Field.{add, mul, rawOf}
+use Rattle.rounds.specs.Field.{add, mul, rawOf}
 
 -- what is left of a sum loses its first summand
 total-next : (n i : ℕ) (f : ℕ → ℕ) → i < n → total (n - i) i f ≡ f i + total (n - (i + 1)) (i + 1) f

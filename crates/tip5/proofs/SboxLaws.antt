@@ -10,11 +10,11 @@ use Rattle.numbers.specs.Fill.{Filled}
 use Rattle.numbers.specs.Lists.{tab}
 use Rattle.numbers.specs.Modulus.{rootExponent}
 use Rattle.numbers.proofs.Fill.{filled-same}
-use Rattle.tip5.specs.Field.{power}
-use Rattle.tip5.specs.Inverse.{invLookup, invLookupByte, invSbox}
-use Rattle.tip5.specs.InverseTables.{invLookupTable}
-use Rattle.tip5.specs.Round.{bytewise, lookup, lookupByte, sbox}
-use Rattle.tip5.specs.Tables.{lookupTable}
+use Rattle.rounds.specs.Field.{power}
+use Rattle.rounds.specs.Inverse.{invLookup, invLookupByte, invSbox}
+use Rattle.rounds.specs.InverseTables.{invLookupTable}
+use Rattle.rounds.specs.Round.{bytewise, lookup, lookupByte, sbox}
+use Rattle.rounds.specs.Tables.{lookupTable}
 use Rattle.tip5.proofs.LentTables.{bytewise-read}
 
 -- words 4 to 15

@@ -7,7 +7,7 @@ use native.Mathlib.Decide.{ℕ-discrete}
 use native.Mathlib.Omega.{arith}
 use borrow.Author.Tests.{eq-eqb, ne-eqb}
 use Rattle.tip5.specs.Permutation.{entering}
-use Rattle.tip5.specs.Round.{round, rounds}
+use Rattle.rounds.specs.Round.{round, rounds}
 
 -- what `entering` is in its three cases
 

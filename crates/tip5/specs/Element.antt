@@ -5,7 +5,7 @@ use Rattle.tip5.specs.declared.b_field_element.BFieldElement.{BFieldElem
 use Rattle.tip5.specs.declared.b_field_element.ElementAnswer.{ElementAnswer}
 use Rattle.tip5.specs.declared.b_field_element.ValueAnswer.{ValueAnswer}
 use Rattle.tip5.specs.declared.b_field_element.WordAnswer.{WordAnswer}
-use Rattle.tip5.specs.Field.{valueOf, add, sub, mul, power}
+use Rattle.rounds.specs.Field.{valueOf, add, sub, mul, power}
 use Rattle.tip5.specs.Judge.{wordRefusal, unless}
 
 -- the element of a raw word

@@ -6,10 +6,10 @@ use lib.Dec.{ltb}
 use Rattle.tip5.specs.declared.permutation.StateAnswer.{StateAnswer}
 use Rattle.tip5.specs.declared.permutation.Way.{Way}
 use Rattle.tip5.specs.declared.permutation.Way.the-variants.{Forth, Back}
-use Rattle.tip5.specs.Inverse.{invPermuted, invRound}
+use Rattle.rounds.specs.Inverse.{invPermuted, invRound}
 use Rattle.tip5.specs.Judge.{first, wordRefusal}
 use Rattle.tip5.specs.Permutation.{nextState, roundRefusal}
-use Rattle.tip5.specs.Round.{permuted, round}
+use Rattle.rounds.specs.Round.{permuted, round}
 
 abbrev pub roundOf : Way → (i : ℕ) → List ℕ → List ℕ
 roundOf Forth i s = round i s

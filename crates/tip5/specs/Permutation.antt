@@ -9,7 +9,8 @@ use Rattle.numbers.specs.Lists.{tab}
 use Rattle.tip5.specs.declared.permutation.StateAnswer.{StateAnswer}
 use Rattle.tip5.specs.declared.permutation.TraceAnswer.{TraceAnswer}
 use Rattle.tip5.specs.Judge.{first, lengthRefusal, unless, wordRefusal}
-use Rattle.tip5.specs.Round.{permuted, round, rounds}
+use Rattle.rounds.specs.Inverse.{invPermuted, invRound}
+use Rattle.rounds.specs.Round.{permuted, round, rounds}
 
 -- refusal 8 for a round that there is not
 abbrev pub roundRefusal : (i : ℕ) → ℕ
@@ -24,6 +25,14 @@ permutation s = nextState (wordRefusal s) (permuted s) s
 
 abbrev pub oneRound : (i : ℕ) → List ℕ → StateAnswer
 oneRound i s = nextState (first (roundRefusal i ∷ wordRefusal s ∷ [])) (round i s) s
+
+-- the same on the way back
+
+abbrev pub invPermutation : List ℕ → StateAnswer
+invPermutation s = nextState (wordRefusal s) (invPermuted s) s
+
+abbrev pub invOneRound : (i : ℕ) → List ℕ → StateAnswer
+invOneRound i s = nextState (first (roundRefusal i ∷ wordRefusal s ∷ [])) (invRound i s) s
 
 -- the entry state and that after each round, one after another
 unfoldable pub sixStates : List ℕ → List ℕ

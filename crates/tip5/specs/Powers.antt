@@ -3,7 +3,7 @@ use mathlib.Core.List.{List}
 use Prim.Native.Nat.{ℕ}
 use lib.ListN.{getD}
 use Rattle.numbers.specs.Lists.{tab}
-use Rattle.tip5.specs.Field.{power}
+use Rattle.rounds.specs.Field.{power}
 
 unfoldable pub powers : (exponent : ℕ) → List ℕ → List ℕ
 powers e a = tab 4 0 (λ k. power (getD a k 0) e)

@@ -3,20 +3,10 @@
 use crate::field;
 use crate::refusal;
 ghost use mathlib.Core.Path.{_≡_};
-ghost use Rattle.tip5.specs.Element.{
-  element,
-  elementOf,
-  fromRaw,
-  rawWord,
-  value,
-  sum,
-  difference,
-  product,
-  modPow,
-};
+ghost use Rattle.tip5.specs.Element.{element, elementOf, fromRaw, rawWord, value, sum, difference, product, modPow};
 ghost use mathlib.Core.List.{[], _∷_};
 ghost use Rattle.numbers.specs.Modulus.{P};
-ghost use Rattle.tip5.specs.Field.{rawOf};
+ghost use Rattle.rounds.specs.Field.{rawOf};
 
 // A plain value. Any u64 may stand here.
 pub struct Value(pub u64);

@@ -5,8 +5,8 @@ ghost use mathlib.Core.Path.{_≡_};
 ghost use Prim.Native.Nat.{_+_, _-_, _*_, _%_, _^_, _<_, _≤_};
 ghost use Rattle.numbers.specs.Congruence.{Cong};
 ghost use Rattle.numbers.specs.Modulus.{P};
-ghost use Rattle.tip5.specs.Field.{rawOf, valueOf};
-ghost use Rattle.tip5.specs.Field as Field;
+ghost use Rattle.rounds.specs.Field.{rawOf, valueOf};
+ghost use Rattle.rounds.specs.Field as Field;
 
 // 2^(-64) and 2^128 modulo P.
 const R_INVERSE: u64 = 18446744065119617025;

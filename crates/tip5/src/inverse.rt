@@ -1,24 +1,25 @@
 // The way back: the inverse of each round and of the permutation. Each public call judges its words
 // before anything moves.
 use crate::inverse_layers;
-use crate::inverse_tables;
 use crate::permutation::StateAnswer;
 use crate::permutation::Way;
 use crate::permutation::judged;
 use crate::permutation::judged_round;
 use crate::permutation::judged_slice;
 use crate::permutation::judged_slice_round;
-use crate::tables;
+use rounds::inverse_tables;
+use rounds::tables;
 ghost use mathlib.Core.Path.{_≡_};
 ghost use Prim.Native.Nat.{ℕ, _<_, _≤_};
 ghost use lib.ListN.{getD};
 ghost use Rattle.numbers.specs.Modulus.{P};
-ghost use Rattle.tip5.specs.Inverse.{invOneRound, invPermutation, invPermuted, invRound};
-ghost use Rattle.tip5.specs.InverseTables.{invLookupTable, rawInvColumn};
+ghost use Rattle.tip5.specs.Permutation.{invOneRound, invPermutation};
+ghost use Rattle.rounds.specs.Inverse.{invPermuted, invRound};
+ghost use Rattle.rounds.specs.InverseTables.{invLookupTable, rawInvColumn};
 ghost use Rattle.tip5.specs.Judge.{unless};
 ghost use Rattle.tip5.specs.Moves.{moved};
 ghost use Rattle.tip5.specs.Permutation.{roundSliceRefusal, sliceRefusal};
-ghost use Rattle.tip5.specs.Tables.{rawConstants};
+ghost use Rattle.rounds.specs.Tables.{rawConstants};
 
 fn inv_round_with(
     table: &[u8; 256],

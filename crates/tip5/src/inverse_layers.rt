@@ -9,11 +9,11 @@ ghost use Rattle.numbers.specs.Circulant.{rowSum};
 ghost use Rattle.numbers.specs.Fill.{Filled};
 ghost use Rattle.numbers.specs.Lists.{tab};
 ghost use Rattle.numbers.specs.Modulus.{P};
-ghost use Rattle.tip5.specs.Constants.{invMdsColumn};
-ghost use Rattle.tip5.specs.Inverse.{invSbox, invSboxLayer, subConstants};
-ghost use Rattle.tip5.specs.InverseTables.{invLookupTable, rawInvColumn};
-ghost use Rattle.tip5.specs.Round.{circulant};
-ghost use Rattle.tip5.specs.Tables.{rawConstants};
+ghost use Rattle.rounds.specs.Constants.{invMdsColumn};
+ghost use Rattle.rounds.specs.Inverse.{invSbox, invSboxLayer, subConstants};
+ghost use Rattle.rounds.specs.InverseTables.{invLookupTable, rawInvColumn};
+ghost use Rattle.rounds.specs.Round.{circulant};
+ghost use Rattle.rounds.specs.Tables.{rawConstants};
 
 // The round's constants subtracted.
 pub(crate) fn subtract_constants(constants: &[u64; 80], round: usize, words: [u64; 16]) -> [u64; 16]

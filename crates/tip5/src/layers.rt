@@ -11,10 +11,10 @@ ghost use Rattle.numbers.specs.Fill.{Filled};
 ghost use Rattle.numbers.specs.Lists.{tab, total};
 ghost use Rattle.numbers.specs.Modulus.{P};
 ghost use Rattle.tip5.specs.Element.{elementOf};
-ghost use Rattle.tip5.specs.Field.{power};
+ghost use Rattle.rounds.specs.Field.{power};
 ghost use Rattle.tip5.specs.Reduced.{reduced};
-ghost use Rattle.tip5.specs.Tables.{lookupTable, rawConstants};
-ghost use Rattle.tip5.specs.Round.{addConstants, bytewise, sboxLayer};
+ghost use Rattle.rounds.specs.Tables.{lookupTable, rawConstants};
+ghost use Rattle.rounds.specs.Round.{addConstants, bytewise, sboxLayer};
 
 fn wide(byte: u8) -> u64
     ensures { λ r. ⌜ (r ≡ byte) × (r < 256) ⌝ }

@@ -3,7 +3,7 @@ use crate::inverse::inv_rounds_of;
 use crate::judge::judge_words;
 use crate::layers;
 use crate::refusal;
-use crate::tables;
+use rounds::tables;
 ghost use mathlib.Core.Path.{_≡_};
 ghost use Prim.Native.Nat.{ℕ, _+_, _-_, _/_, _%_, _<_, _≤_};
 ghost use lib.ListN.{getD, length};
@@ -11,16 +11,11 @@ ghost use Rattle.numbers.specs.Modulus.{P};
 ghost use Rattle.tip5.specs.Judge.{unless};
 ghost use Rattle.tip5.specs.Moves.{movedAnswer, roundAnswer, roundOf};
 ghost use Rattle.tip5.specs.Moves as Moves;
-ghost use Rattle.tip5.specs.Permutation.{
-  oneRound,
-  roundSliceRefusal,
-  sixStates,
-  sliceRefusal,
-};
+ghost use Rattle.tip5.specs.Permutation.{oneRound, roundSliceRefusal, sixStates, sliceRefusal};
 ghost use Rattle.tip5.specs.Permutation as Permutation;
-ghost use Rattle.tip5.specs.Round.{permuted};
-ghost use Rattle.tip5.specs.Round as Round;
-ghost use Rattle.tip5.specs.Tables.{lookupTable, rawConstants};
+ghost use Rattle.rounds.specs.Round.{permuted};
+ghost use Rattle.rounds.specs.Round as Round;
+ghost use Rattle.rounds.specs.Tables.{lookupTable, rawConstants};
 
 // A refusal or 0, and the next state, or the state that went in where the call is refused.
 pub struct StateAnswer {

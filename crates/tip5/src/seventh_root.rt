@@ -6,7 +6,7 @@ ghost use Prim.Native.Nat.{ℕ, _^_, _<_};
 ghost use lib.ListN.{getD};
 ghost use Rattle.numbers.specs.Lists.{tab};
 ghost use Rattle.numbers.specs.Modulus.{P, rootExponent};
-ghost use Rattle.tip5.specs.Field.{mul, power};
+ghost use Rattle.rounds.specs.Field.{mul, power};
 ghost use Rattle.tip5.specs.Powers.{powers};
 
 // a squared so many times, then multiplied by b.

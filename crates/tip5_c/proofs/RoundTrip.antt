@@ -8,9 +8,9 @@ use native.Mathlib.Omega.{arith}
 use lib.Dec.{lit<}
 use lib.ListN.{getD, length}
 use Rattle.numbers.proofs.Lists.{getD-tab₀, tab-unique, total-same}
-use Rattle.tip5.specs.Round.{bytewise}
-use Rattle.tip5.proofs.BytewiseUndone.{bytewise-whole}
-use Rattle.tip5.proofs.DigitLaws.{digit-number, total-number}
+use Rattle.rounds.specs.Round.{bytewise}
+use Rattle.rounds.proofs.BytewiseUndone.{bytewise-whole}
+use Rattle.rounds.proofs.DigitLaws.{digit-number, total-number}
 use Rattle.tip5_c.specs.Bytes.{byteAt, bytesOf, wordAt, wordsOf}
 use Rattle.tip5_c.proofs.WordLaws.{byte-of-word}
 

@@ -6,13 +6,14 @@ use Prim.Native.Nat.{ℕ, _<_}
 use native.Mathlib.Omega.{arith}
 use lib.ListN.{getD, length}
 use Rattle.numbers.proofs.Lists.{length-tab}
-use Rattle.tip5.specs.Inverse.{invPermuted}
+use Rattle.rounds.specs.Inverse.{invPermuted}
 use Rattle.tip5.specs.Judge.{wordRefusal}
-use Rattle.tip5.specs.Round.{permuted}
+use Rattle.rounds.specs.Round.{permuted}
 use Rattle.tip5.proofs.AnswerLaws.{unless-granted}
-use Rattle.tip5.proofs.JudgeLaws.{Below, accepted-below, below-accepted}
-use Rattle.tip5.proofs.RoundLaws.{invPermuted-below, invPermuted-length, permuted-below, permuted-length}
-use Rattle.tip5.proofs.RoundTrip.{invPermuted-permuted, permuted-invPermuted}
+use Rattle.rounds.specs.Field.{Below}
+use Rattle.tip5.proofs.JudgeLaws.{accepted-below, below-accepted}
+use Rattle.rounds.proofs.RoundLaws.{invPermuted-below, invPermuted-length, permuted-below, permuted-length}
+use Rattle.rounds.proofs.RoundTrip.{invPermuted-permuted, permuted-invPermuted}
 use Rattle.tip5_c.specs.Bytes.{byteAt, bytesOf, wordsOf, wordAt}
 use Rattle.tip5_c.specs.Export.{after, bytesRefusal}
 use Rattle.tip5_c.proofs.ExportLaws.{length-accepted}

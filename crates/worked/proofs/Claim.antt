@@ -4,11 +4,11 @@ use mathlib.Core.List.{map}
 use mathlib.Core.Path.{_≡_, refl}
 use Rattle.draws.specs.Draw.{drawnFrom, indexOf}
 use Rattle.numbers.specs.Circulant.{rowSum}
-use Rattle.tip5.specs.Constants.{roundConstants}
-use Rattle.tip5.specs.Field.{add, rawOf}
+use Rattle.rounds.specs.Constants.{roundConstants}
+use Rattle.rounds.specs.Field.{add, rawOf}
 use Rattle.tip5.specs.Reduced.{folded, reduced}
-use Rattle.tip5.specs.Round.{bytewise, circulant, lookup, lookupByte}
-use Rattle.tip5.specs.Tables.{rawConstants}
+use Rattle.rounds.specs.Round.{bytewise, circulant, lookup, lookupByte}
+use Rattle.rounds.specs.Tables.{rawConstants}
 use Rattle.worked.specs.Cases.{Case, table}
 
 pub worked-cases : map (λ (c : Case). c .given) table ≡ map (λ (c : Case). c .worked) table

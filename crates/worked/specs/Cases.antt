@@ -5,10 +5,10 @@ use Rattle.draws.specs.Draw.{drawnFrom}
 use Rattle.matrix.specs.Column.{mdsColumn}
 use Rattle.numbers.specs.Lists.{tab}
 use Rattle.numbers.specs.Modulus.{P}
-use Rattle.tip5.specs.Field.{add, rawOf}
+use Rattle.rounds.specs.Field.{add, rawOf}
 use Rattle.tip5.specs.Reduced.{reduced}
-use Rattle.tip5.specs.Round.{circulant, lookup, lookupByte}
-use Rattle.tip5.specs.Tables.{rawConstants}
+use Rattle.rounds.specs.Round.{circulant, lookup, lookupByte}
+use Rattle.rounds.specs.Tables.{rawConstants}
 
 pub record Case : Type 0 where
   pub given : List ℕ

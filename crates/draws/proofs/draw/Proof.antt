@@ -9,7 +9,7 @@ use lib.ListN.{length}
 use Rattle.draws.specs.Draw.{draw, fromWords}
 use Rattle.draws.specs.Extended.{Extended}
 use Rattle.sponge.specs.declared.Tip5.{Tip5}
-use Rattle.tip5.proofs.JudgeLaws.{Below}
+use Rattle.rounds.specs.Field.{Below}
 use Rattle.draws.proofs.DrawLaws.{draw-none, draw-spent}
 use Rattle.draws.proofs.AnswerLaws.{all-found, missing-found}
 use Rattle.draws.proofs.SqueezeLaws.{squeezed-sponge, squeezed-ten, ten-below}

@@ -2,7 +2,7 @@
 -- Assumes nothing.
 use mathlib.Core.Path.{ap, _∙_}
 use Rattle.tip5.specs.Permutation.{permutation}
-use Rattle.tip5.specs.Round.{permuted}
+use Rattle.rounds.specs.Round.{permuted}
 use Rattle.tip5_c.proofs.ExportLaws.{answered, wrong-length}
 use borrow.Author.Needs.{needs}
 use Rattle.tip5_c.proofs.tip5_permutation.Statement.{statement}

@@ -9,7 +9,7 @@ use Rattle.draws.specs.Draw.{drawnFrom, indexOf}
 use Rattle.draws.specs.Extended.{Extended}
 use Rattle.draws.proofs.ExtendedLaws.{extended-full, extended-none, extended-one}
 use Rattle.draws.proofs.IndexLaws.{drawn-index, drawn-skipped, value-answered}
-use Rattle.tip5.specs.Field.{valueOf}
+use Rattle.rounds.specs.Field.{valueOf}
 use borrow.Author.Needs.{needs}
 use Rattle.draws.proofs.index.put_index.Statement.{statement}
 use Rattle.draws.proofs.index.put_index.Tie as tie

@@ -10,7 +10,7 @@ use Rattle.draws.specs.Draw.{drawnFrom, fromWords}
 use Rattle.draws.specs.Extended.{Extended}
 use Rattle.draws.proofs.ExtendedLaws.{extended-none, extended-twice}
 use Rattle.draws.proofs.IndexLaws.{fromWords-more}
-use Rattle.tip5.specs.Field.{valueOf}
+use Rattle.rounds.specs.Field.{valueOf}
 use Rattle.draws.proofs.index.put_indices.Statement.{statement}
 use Rattle.draws.proofs.index.put_indices.Tie as tie
 

@@ -17,7 +17,7 @@ use Rattle.sponge.proofs.BelowLaws.{drop-below, take-below}
 use Rattle.sponge.proofs.HistoryLaws.{run-padded-last, run-padded-more}
 use Rattle.sponge.proofs.PaddingLaws.{lastTen-below}
 use Rattle.sponge.proofs.SpongeLaws.{absorbed-below, start-below}
-use Rattle.tip5.proofs.JudgeLaws.{Below}
+use Rattle.rounds.specs.Field.{Below}
 use Rattle.rows.proofs.row.row_sponge.Statement.{statement}
 use Rattle.rows.proofs.row.row_sponge.Tie as tie
 

@@ -5,7 +5,7 @@ use mathlib.Core.Path.{ap, _∙_}
 use Prim.Native.Nat.{ℕ}
 use Rattle.sheet.specs.Line.{digestLine}
 use Rattle.sponge.specs.Digest.{digestOf}
-use Rattle.tip5.specs.Field.{valueOf}
+use Rattle.rounds.specs.Field.{valueOf}
 use Rattle.sheet.proofs.WordsLaws.{part-good, part-length, words-part}
 use Rattle.sheet.proofs.PutLaws.{front-same}
 use borrow.Author.Needs.{needs}

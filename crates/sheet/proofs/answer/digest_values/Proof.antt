@@ -8,10 +8,10 @@ use Rattle.sponge.specs.declared.digest.DigestAnswer.{DigestAnswer}
 use Rattle.sponge.specs.Answers.{hashVarlen}
 use Rattle.sponge.specs.Digest.{digestOf}
 use Rattle.sponge.proofs.DigestLaws.{digestOf-below}
-use Rattle.tip5.specs.Field.{valueOf}
+use Rattle.rounds.specs.Field.{valueOf}
 use Rattle.tip5.specs.Judge.{wordRefusal}
 use Rattle.tip5.proofs.AnswerLaws.{unless-granted}
-use Rattle.tip5.proofs.JudgeLaws.{Below}
+use Rattle.rounds.specs.Field.{Below}
 use borrow.Author.Needs.{needs}
 use Rattle.sheet.proofs.answer.digest_values.Statement.{statement}
 use Rattle.sheet.proofs.answer.digest_values.Tie as tie

@@ -11,7 +11,7 @@ use lib.Seq.{drop-cons, set-at}
 use Rattle.numbers.specs.Lists.{tab}
 use Rattle.numbers.proofs.Lists.{length-tab}
 use Rattle.sheet.specs.Sheet.{value, wordsOf}
-use Rattle.tip5.specs.Field.{rawOf}
+use Rattle.rounds.specs.Field.{rawOf}
 use Rattle.sheet.proofs.Tabs.{tab-snoc}
 use Rattle.sheet.proofs.answer.put_words.Statement.{statement}
 use Rattle.sheet.proofs.answer.put_words.Tie as tie

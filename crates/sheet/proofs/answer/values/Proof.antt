@@ -13,7 +13,7 @@ use Rattle.numbers.specs.Modulus.{P}
 use Rattle.numbers.proofs.Lists.{tab-getD}
 use Rattle.tip5.specs.declared.b_field_element.ValueAnswer.{ValueAnswer}
 use Rattle.tip5.specs.Element.{elementOf, value}
-use Rattle.tip5.specs.Field.{valueOf}
+use Rattle.rounds.specs.Field.{valueOf}
 use Rattle.sheet.proofs.answer.values.Statement.{statement}
 use Rattle.sheet.proofs.answer.values.Tie as tie
 

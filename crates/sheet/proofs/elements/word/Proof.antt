@@ -2,7 +2,7 @@
 -- Assumes nothing.
 use mathlib.Core.Path.{ap, _∙_}
 use borrow.Author.Needs.{needs}
-use Rattle.tip5.specs.Field.{rawOf}
+use Rattle.rounds.specs.Field.{rawOf}
 use Rattle.tip5.specs.declared.b_field_element.BFieldElement.{BFieldElement}
 use Rattle.sheet.proofs.elements.word.Statement.{statement}
 use Rattle.sheet.proofs.elements.word.Tie as tie

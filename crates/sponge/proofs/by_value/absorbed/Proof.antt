@@ -3,7 +3,7 @@
 use mathlib.Core.Path.{ap, subst⁻¹, _∙_}
 use Rattle.sponge.specs.declared.Tip5.{Tip5}
 use Rattle.sponge.specs.Sponge.{absorbed, permute}
-use Rattle.tip5.proofs.JudgeLaws.{Below}
+use Rattle.rounds.specs.Field.{Below}
 use Rattle.sponge.proofs.SpongeLaws.{overwrite-below}
 use borrow.Author.Needs.{needs}
 use Rattle.sponge.proofs.by_value.absorbed.Statement.{statement}

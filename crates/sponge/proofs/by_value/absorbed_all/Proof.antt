@@ -10,7 +10,7 @@ use Rattle.sponge.specs.declared.Tip5.{Tip5}
 use Rattle.sponge.specs.History.{paddedSteps, run}
 use Rattle.sponge.specs.Padding.{lastTen}
 use Rattle.sponge.specs.Sponge.{absorbed}
-use Rattle.tip5.proofs.JudgeLaws.{Below}
+use Rattle.rounds.specs.Field.{Below}
 use Rattle.sponge.proofs.BelowLaws.{drop-below, take-below}
 use Rattle.sponge.proofs.HistoryLaws.{run-padded-last, run-padded-more}
 use Rattle.sponge.proofs.ListLaws.{part-of, rest-of}

@@ -8,7 +8,7 @@ use Rattle.sponge.specs.declared.Tip5.{Tip5}
 use Rattle.sponge.specs.Digest.{digestOf}
 use Rattle.sponge.specs.History.{paddedSteps, run}
 use Rattle.sponge.specs.Sponge.{start}
-use Rattle.tip5.proofs.JudgeLaws.{Below}
+use Rattle.rounds.specs.Field.{Below}
 use Rattle.sponge.proofs.SpongeLaws.{start-below, start-length}
 use Rattle.sponge.proofs.DigestLaws.{digest-words}
 use Rattle.sponge.proofs.HistoryLaws.{run-length}

@@ -6,7 +6,7 @@ use Prim.Native.Nat.{ℕ}
 use native.Mathlib.Omega.{arith}
 use lib.ListN.{length, length-append}
 use Rattle.sponge.specs.Digest.{digestOfPair, digestOfTen}
-use Rattle.tip5.proofs.JudgeLaws.{Below}
+use Rattle.rounds.specs.Field.{Below}
 use Rattle.sponge.proofs.BelowLaws.{append-below}
 use borrow.Author.Needs.{needs}
 use Rattle.sponge.proofs.digest.digest_of_pair.Statement.{statement}

@@ -7,7 +7,7 @@ use Rattle.sponge.specs.declared.Domain.the-variants.{FixedLength}
 use Rattle.sponge.specs.declared.Tip5.{Tip5}
 use Rattle.sponge.specs.Digest.{digestOfTen}
 use Rattle.sponge.specs.Sponge.{absorbed, start}
-use Rattle.tip5.proofs.JudgeLaws.{Below}
+use Rattle.rounds.specs.Field.{Below}
 use Rattle.sponge.proofs.SpongeLaws.{absorbed-length, start-below}
 use Rattle.sponge.proofs.DigestLaws.{digest-words}
 use borrow.Author.Needs.{needs}

@@ -2,7 +2,7 @@
 -- Assumes nothing.
 use native.Mathlib.Omega.{arith}
 use borrow.Author.Needs.{needs}
-use Rattle.tip5.specs.Field.{add}
+use Rattle.rounds.specs.Field.{add}
 use Rattle.tip5.proofs.field.add.Statement.{statement}
 use Rattle.tip5.proofs.field.add.Tie as tie
 

@@ -9,7 +9,7 @@ use lib.Dec.{lit<}
 use Rattle.numbers.specs.Congruence.{Cong}
 use Rattle.numbers.specs.Modulus.{P}
 use Rattle.numbers.proofs.Congruence.{cong-add, cong-eq, cong-mod, cong-multiple, cong-refl, cong-sym, cong-trans}
-use Rattle.tip5.specs.Field.{add}
+use Rattle.rounds.specs.Field.{add}
 use Rattle.tip5.proofs.field.folded.Statement.{statement}
 use Rattle.tip5.proofs.field.folded.Tie as tie
 

@@ -10,8 +10,8 @@ use Rattle.numbers.specs.Congruence.{Cong}
 use Rattle.numbers.specs.Modulus.{P}
 use Rattle.numbers.proofs.Congruence.{cong-eq, cong-mod, cong-mul, cong-pow, cong-refl, cong-sym, cong-trans}
 use Rattle.numbers.proofs.Power.{pow-square}
-use Rattle.tip5.specs.Field.{mul, power, rawOf, valueOf}
-use Rattle.tip5.proofs.FieldLaws.{mul-below, rawOf-cong, rawOf-valueOf, valueOf-mul}
+use Rattle.rounds.specs.Field.{mul, power, rawOf, valueOf}
+use Rattle.rounds.proofs.FieldLaws.{mul-below, rawOf-cong, rawOf-valueOf, valueOf-mul}
 use Rattle.tip5.proofs.field.mod_pow.Statement.{statement}
 use Rattle.tip5.proofs.field.mod_pow.Tie as tie
 

@@ -6,7 +6,7 @@ use native.Mathlib.Nat.{div-add-mod'}
 use borrow.Author.Needs.{needs}
 use Rattle.numbers.specs.Modulus.{P, rInv}
 use Rattle.numbers.proofs.Congruence.{mod-mul-left}
-use Rattle.tip5.specs.Field.{mul}
+use Rattle.rounds.specs.Field.{mul}
 use Rattle.tip5.proofs.field.mul.Statement.{statement}
 use Rattle.tip5.proofs.field.mul.Tie as tie
 

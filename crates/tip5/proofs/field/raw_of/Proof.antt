@@ -7,7 +7,7 @@ use native.Mathlib.Omega.{arith}
 use borrow.Author.Needs.{needs}
 use Rattle.numbers.specs.Modulus.{P, rInv}
 use Rattle.numbers.proofs.Congruence.{mod-mul-left, mod-mul-right}
-use Rattle.tip5.specs.Field.{mul, rawOf}
+use Rattle.rounds.specs.Field.{mul, rawOf}
 use Rattle.tip5.proofs.field.raw_of.Statement.{statement}
 use Rattle.tip5.proofs.field.raw_of.Tie as tie
 

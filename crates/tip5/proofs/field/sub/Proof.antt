@@ -2,7 +2,7 @@
 -- Assumes nothing.
 use native.Mathlib.Omega.{arith}
 use borrow.Author.Needs.{needs}
-use Rattle.tip5.specs.Field.{sub}
+use Rattle.rounds.specs.Field.{sub}
 use Rattle.tip5.proofs.field.sub.Statement.{statement}
 use Rattle.tip5.proofs.field.sub.Tie as tie
 

@@ -8,8 +8,8 @@ use borrow.Author.Needs.{needs}
 use Rattle.numbers.specs.Congruence.{Cong}
 use Rattle.numbers.specs.Modulus.{P}
 use Rattle.numbers.proofs.Congruence.{cong-eq, cong-mod, cong-trans}
-use Rattle.tip5.specs.Field.{mul, valueOf}
-use Rattle.tip5.proofs.FieldLaws.{mul-below, valueOf-mul}
+use Rattle.rounds.specs.Field.{mul, valueOf}
+use Rattle.rounds.proofs.FieldLaws.{mul-below, valueOf-mul}
 use Rattle.tip5.proofs.field.times_if_odd.Statement.{statement}
 use Rattle.tip5.proofs.field.times_if_odd.Tie as tie
 

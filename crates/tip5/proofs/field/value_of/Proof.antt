@@ -5,7 +5,7 @@ use Prim.Native.Nat.{ℕ, _*_, _%_}
 use native.Mathlib.Nat.{mul-one}
 use borrow.Author.Needs.{needs}
 use Rattle.numbers.specs.Modulus.{P, rInv}
-use Rattle.tip5.specs.Field.{mul, valueOf}
+use Rattle.rounds.specs.Field.{mul, valueOf}
 use Rattle.tip5.proofs.field.value_of.Statement.{statement}
 use Rattle.tip5.proofs.field.value_of.Tie as tie
 

@@ -3,9 +3,9 @@
 use mathlib.Core.Path.{ap, subst⁻¹, _∙_}
 use borrow.Author.Needs.{needs}
 use lib.Dec.{lit<}
-use Rattle.tip5.specs.Inverse.{invPermuted, invRound, unrounds}
-use Rattle.tip5.proofs.JudgeLaws.{Below}
-use Rattle.tip5.proofs.RoundLaws.{invRound-below}
+use Rattle.rounds.specs.Inverse.{invPermuted, invRound, unrounds}
+use Rattle.rounds.specs.Field.{Below}
+use Rattle.rounds.proofs.RoundLaws.{invRound-below}
 use Rattle.tip5.proofs.inverse.five_inv_rounds_with.Statement.{statement}
 use Rattle.tip5.proofs.inverse.five_inv_rounds_with.Tie as tie
 

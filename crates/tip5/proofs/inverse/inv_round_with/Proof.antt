@@ -2,11 +2,11 @@
 -- Assumes nothing.
 use mathlib.Core.Path.{ap, subst⁻¹, _∙_}
 use borrow.Author.Needs.{needs}
-use Rattle.tip5.specs.Constants.{invMdsColumn}
-use Rattle.tip5.specs.Inverse.{invRound, invSboxLayer}
-use Rattle.tip5.specs.Round.{circulant}
-use Rattle.tip5.proofs.JudgeLaws.{Below}
-use Rattle.tip5.proofs.RoundLaws.{circulant-below, subConstants-below}
+use Rattle.rounds.specs.Constants.{invMdsColumn}
+use Rattle.rounds.specs.Inverse.{invRound, invSboxLayer}
+use Rattle.rounds.specs.Round.{circulant}
+use Rattle.rounds.specs.Field.{Below}
+use Rattle.rounds.proofs.RoundLaws.{circulant-below, subConstants-below}
 use Rattle.tip5.proofs.inverse.inv_round_with.Statement.{statement}
 use Rattle.tip5.proofs.inverse.inv_round_with.Tie as tie
 

@@ -7,8 +7,8 @@ use Rattle.numbers.specs.Circulant.{rowSum}
 use Rattle.numbers.specs.Fill.{Filled}
 use Rattle.numbers.specs.Modulus.{P}
 use Rattle.numbers.proofs.Fill.{filled-none, filled-more, filled-all}
-use Rattle.tip5.specs.Constants.{invMdsColumn}
-use Rattle.tip5.specs.Round.{circulant}
+use Rattle.rounds.specs.Constants.{invMdsColumn}
+use Rattle.rounds.specs.Round.{circulant}
 use Rattle.tip5.proofs.inverse_layers.inv_mds_matrix_mul.Statement.{statement}
 use Rattle.tip5.proofs.inverse_layers.inv_mds_matrix_mul.Tie as tie
 

@@ -12,10 +12,10 @@ use Rattle.numbers.specs.Congruence.{Cong}
 use Rattle.numbers.specs.Lists.{total}
 use Rattle.numbers.specs.Modulus.{P}
 use Rattle.numbers.proofs.Congruence.{cong-eq, cong-trans}
-use Rattle.tip5.specs.Constants.{invMdsColumn}
-use Rattle.tip5.specs.Field.{mul, rawOf}
-use Rattle.tip5.specs.InverseTables.{rawInvColumn}
-use Rattle.tip5.proofs.FieldLaws.{add-below, mul-below, rawOf-below}
+use Rattle.rounds.specs.Constants.{invMdsColumn}
+use Rattle.rounds.specs.Field.{mul, rawOf}
+use Rattle.rounds.specs.InverseTables.{rawInvColumn}
+use Rattle.rounds.proofs.FieldLaws.{add-below, mul-below, rawOf-below}
 use Rattle.tip5.proofs.LentTables.{entry-read}
 use Rattle.tip5.proofs.RowLaws.{mul-rawOf, row-done, row-turn}
 use Rattle.tip5.proofs.inverse_layers.inv_row.Statement.{statement}

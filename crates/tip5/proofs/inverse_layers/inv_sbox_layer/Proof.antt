@@ -4,7 +4,7 @@ use mathlib.Core.Path.{refl}
 use native.Mathlib.Omega.{arith}
 use borrow.Author.Needs.{needs}
 use Rattle.numbers.proofs.Fill.{filled-all}
-use Rattle.tip5.specs.Inverse.{invSboxLayer}
+use Rattle.rounds.specs.Inverse.{invSboxLayer}
 use Rattle.tip5.proofs.SboxLaws.{invSbox-looked-up}
 use Rattle.tip5.proofs.inverse_layers.inv_sbox_layer.Statement.{statement}
 use Rattle.tip5.proofs.inverse_layers.inv_sbox_layer.Tie as tie

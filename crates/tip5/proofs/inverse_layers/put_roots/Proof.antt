@@ -14,12 +14,12 @@ use Rattle.numbers.specs.Lists.{tab}
 use Rattle.numbers.specs.Modulus.{rootExponent}
 use Rattle.numbers.proofs.Fill.{filled-more, filled-same}
 use Rattle.numbers.proofs.Lists.{getD-tab₀}
-use Rattle.tip5.specs.Field.{power}
-use Rattle.tip5.specs.Inverse.{invSbox}
+use Rattle.rounds.specs.Field.{power}
+use Rattle.rounds.specs.Inverse.{invSbox}
 use Rattle.tip5.specs.Powers.{powers}
-use Rattle.tip5.proofs.JudgeLaws.{Below}
+use Rattle.rounds.specs.Field.{Below}
 use Rattle.tip5.proofs.PowersLaws.{powers-at}
-use Rattle.tip5.proofs.RoundLaws.{tab-below}
+use Rattle.rounds.proofs.RoundLaws.{tab-below}
 use Rattle.tip5.proofs.SboxLaws.{invSbox-root}
 use Rattle.tip5.proofs.inverse_layers.put_roots.Statement.{statement}
 use Rattle.tip5.proofs.inverse_layers.put_roots.Tie as tie

@@ -8,11 +8,11 @@ use lib.ListN.{getD}
 use Rattle.numbers.specs.Fill.{Filled}
 use Rattle.numbers.specs.Modulus.{P}
 use Rattle.numbers.proofs.Fill.{filled-none, filled-more, filled-all}
-use Rattle.tip5.specs.Field.{sub}
-use Rattle.tip5.specs.Inverse.{subConstants}
-use Rattle.tip5.specs.Round.{constant}
+use Rattle.rounds.specs.Field.{sub}
+use Rattle.rounds.specs.Inverse.{subConstants}
+use Rattle.rounds.specs.Round.{constant}
 use Rattle.tip5.proofs.LentTables.{constant-read}
-use Rattle.tip5.proofs.RoundLaws.{constant-below}
+use Rattle.rounds.proofs.RoundLaws.{constant-below}
 use Rattle.tip5.proofs.inverse_layers.subtract_constants.Statement.{statement}
 use Rattle.tip5.proofs.inverse_layers.subtract_constants.Tie as tie
 

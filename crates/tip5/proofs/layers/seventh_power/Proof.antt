@@ -3,8 +3,8 @@
 use mathlib.Core.Path.{_≡_, sym, subst⁻¹, _∙_}
 use Prim.Native.Nat.{ℕ, _+_, _<_}
 use Rattle.numbers.specs.Modulus.{P}
-use Rattle.tip5.specs.Field.{mul, power}
-use Rattle.tip5.proofs.FieldLaws.{mul-below, mul-power, power-one}
+use Rattle.rounds.specs.Field.{mul, power}
+use Rattle.rounds.proofs.FieldLaws.{mul-below, mul-power, power-one}
 use borrow.Author.Needs.{needs}
 use Rattle.tip5.proofs.layers.seventh_power.Statement.{statement}
 use Rattle.tip5.proofs.layers.seventh_power.Tie as tie

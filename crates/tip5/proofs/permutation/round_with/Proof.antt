@@ -8,7 +8,7 @@ use Rattle.matrix.specs.Column.{mdsColumn}
 use Rattle.numbers.specs.Circulant.{rowSum}
 use Rattle.numbers.specs.Lists.{tab}
 use Rattle.tip5.specs.Reduced.{reduced}
-use Rattle.tip5.specs.Round.{addConstants, circulant, round}
+use Rattle.rounds.specs.Round.{addConstants, circulant, round}
 use Rattle.tip5.proofs.MendedLaws.{mended-layer}
 use borrow.Author.Needs.{needs}
 use Rattle.tip5.proofs.permutation.round_with.Statement.{statement}

@@ -9,9 +9,9 @@ use lib.ListN.{getD}
 use Rattle.numbers.specs.Fill.{Filled}
 use Rattle.numbers.proofs.Fill.{filled-none, filled-more, filled-all}
 use Rattle.tip5.specs.Permutation.{entering, sixStates}
-use Rattle.tip5.specs.Round.{rounds}
-use Rattle.tip5.proofs.JudgeLaws.{Below}
-use Rattle.tip5.proofs.RoundLaws.{rounds-below}
+use Rattle.rounds.specs.Round.{rounds}
+use Rattle.rounds.specs.Field.{Below}
+use Rattle.rounds.proofs.RoundLaws.{rounds-below}
 use Rattle.tip5.proofs.TraceLaws.{entering-rounds}
 use Rattle.tip5.proofs.permutation.six_states.Statement.{statement}
 use Rattle.tip5.proofs.permutation.six_states.Tie as tie

@@ -7,8 +7,8 @@ use native.Mathlib.Omega.{arith}
 use borrow.Author.Needs.{needs}
 use lib.ListN.{getD}
 use Rattle.numbers.specs.Modulus.{P}
-use Rattle.tip5.specs.Field.{mul, power}
-use Rattle.tip5.proofs.FieldLaws.{power-one}
+use Rattle.rounds.specs.Field.{mul, power}
+use Rattle.rounds.proofs.FieldLaws.{power-one}
 use Rattle.tip5.proofs.PowersLaws.{power-word, squared-all, squared-more}
 use Rattle.tip5.proofs.seventh_root.raised.Statement.{statement}
 use Rattle.tip5.proofs.seventh_root.raised.Tie as tie

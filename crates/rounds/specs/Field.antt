@@ -1,5 +1,7 @@
 -- The field of P on raw words: an element of value v is held as the word v * 2 ^ 64 mod P.
-use Prim.Native.Nat.{ℕ, _+_, _-_, _*_, _%_, _^_}
+use mathlib.Core.List.{List}
+use Prim.Native.Nat.{ℕ, _+_, _-_, _*_, _%_, _^_, _<_}
+use lib.ListN.{getD}
 use Rattle.numbers.specs.Modulus.{P, rInv}
 
 -- the raw word of a value
@@ -23,3 +25,7 @@ mul a b = a * b * rInv % P
 -- the raw word of the e-th power of a's value
 unfoldable pub power : (a e : ℕ) → ℕ
 power a e = rawOf (valueOf a ^ e)
+
+-- every word of a list is below P; past its end stands 0
+abbrev pub Below : List ℕ → Type 0
+Below s = (k : ℕ) → getD s k 0 < P

@@ -7,10 +7,10 @@ use lib.Dec.{T, eqb, eqb→eq, ltb, ltb→lt}
 use Rattle.numbers.specs.Modulus.{P}
 use Rattle.numbers.specs.Table.{each}
 use Rattle.numbers.proofs.Table.{each-at}
-use Rattle.tip5.specs.Inverse.{invLookup, invLookupByte}
-use Rattle.tip5.specs.Round.{lookup, lookupByte}
-use Rattle.tip5.proofs.BytewiseBelow.{Ends, bytewise-below, ends-bytes}
-use Rattle.tip5.proofs.BytewiseUndone.{Bytes, bytewise-undone}
+use Rattle.rounds.specs.Inverse.{invLookup, invLookupByte}
+use Rattle.rounds.specs.Round.{lookup, lookupByte}
+use Rattle.rounds.proofs.BytewiseBelow.{Ends, bytewise-below, ends-bytes}
+use Rattle.rounds.proofs.BytewiseUndone.{Bytes, bytewise-undone}
 
 -- Bytes
 

@@ -5,8 +5,8 @@ use Prim.Native.Nat.{ℕ, _*_, _/_, _%_, _^_, _<_}
 use native.Mathlib.Nat.{div-one, mod-lt, mul-one, zero-add}
 use lib.Dec.{lit<}
 use Rattle.numbers.proofs.Lists.{total-same}
-use Rattle.tip5.specs.Round.{bytewise}
-use Rattle.tip5.proofs.DigitLaws.{digit-number, number-digits, total-number}
+use Rattle.rounds.specs.Round.{bytewise}
+use Rattle.rounds.proofs.DigitLaws.{digit-number, number-digits, total-number}
 
 -- a word's byte k is a byte
 pub byte-below : (w k : ℕ) → w / 256 ^ k % 256 < 256

@@ -3,9 +3,9 @@ use mathlib.Core.List.{List}
 use Prim.Native.Nat.{ℕ}
 use lib.ListN.{getD}
 use Rattle.numbers.specs.Lists.{tab}
-use Rattle.tip5.specs.Constants.{invMdsColumn}
-use Rattle.tip5.specs.Field.{rawOf}
-use Rattle.tip5.specs.Inverse.{invLookupByte}
+use Rattle.rounds.specs.Constants.{invMdsColumn}
+use Rattle.rounds.specs.Field.{rawOf}
+use Rattle.rounds.specs.Inverse.{invLookupByte}
 
 -- the rule at every byte
 unfoldable pub invLookupTable : List ℕ

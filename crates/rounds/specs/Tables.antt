@@ -3,9 +3,9 @@ use mathlib.Core.List.{List}
 use Prim.Native.Nat.{ℕ}
 use lib.ListN.{getD}
 use Rattle.numbers.specs.Lists.{tab}
-use Rattle.tip5.specs.Constants.{roundConstants}
-use Rattle.tip5.specs.Field.{rawOf}
-use Rattle.tip5.specs.Round.{lookupByte}
+use Rattle.rounds.specs.Constants.{roundConstants}
+use Rattle.rounds.specs.Field.{rawOf}
+use Rattle.rounds.specs.Round.{lookupByte}
 
 -- the cube rule at every byte
 unfoldable pub lookupTable : List ℕ

@@ -7,29 +7,13 @@ use mathlib.Core.List.{List}
 use Prim.Native.Nat.{ℕ, zero, suc}
 use lib.ListN.{length}
 use Rattle.matrix.specs.Column.{mdsColumn}
-use Rattle.tip5.specs.Constants.{invMdsColumn}
-use Rattle.tip5.specs.Inverse.{invPermuted, invRound, invSboxLayer, subConstants, unrounds}
-use Rattle.tip5.specs.Round.{addConstants, circulant, permuted, round, rounds, sboxLayer}
-use Rattle.tip5.proofs.CirculantLaws.{invMds-mds, mds-invMds}
-use Rattle.tip5.proofs.JudgeLaws.{Below}
-use Rattle.tip5.proofs.LayersUndone.{
-  addConstants-subConstants,
-  invSboxLayer-sboxLayer,
-  sboxLayer-invSboxLayer,
-  subConstants-addConstants,
-}
-use Rattle.tip5.proofs.RoundLaws.{
-  circulant-below,
-  circulant-length,
-  invRound-below,
-  invRound-length,
-  rounds-below,
-  rounds-length,
-  sboxLayer-below,
-  sboxLayer-length,
-  subConstants-below,
-  subConstants-length,
-}
+use Rattle.rounds.specs.Constants.{invMdsColumn}
+use Rattle.rounds.specs.Inverse.{invPermuted, invRound, invSboxLayer, subConstants, unrounds}
+use Rattle.rounds.specs.Round.{addConstants, circulant, permuted, round, rounds, sboxLayer}
+use Rattle.rounds.proofs.CirculantLaws.{invMds-mds, mds-invMds}
+use Rattle.rounds.specs.Field.{Below}
+use Rattle.rounds.proofs.LayersUndone.{addConstants-subConstants, invSboxLayer-sboxLayer, sboxLayer-invSboxLayer, subConstants-addConstants}
+use Rattle.rounds.proofs.RoundLaws.{circulant-below, circulant-length, invRound-below, invRound-length, rounds-below, rounds-length, sboxLayer-below, sboxLayer-length, subConstants-below, subConstants-length}
 
 -- Rounds
 

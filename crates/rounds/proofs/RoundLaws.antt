@@ -12,11 +12,11 @@ use Rattle.numbers.specs.Circulant.{rowSum}
 use Rattle.numbers.specs.Lists.{tab}
 use Rattle.numbers.specs.Modulus.{P}
 use Rattle.numbers.proofs.Lists.{getD-tab-all}
-use Rattle.tip5.specs.Inverse.{invPermuted, invRound, invSbox, invSboxLayer, subConstants, unrounds}
-use Rattle.tip5.specs.Round.{addConstants, circulant, constant, permuted, round, rounds, sbox, sboxLayer}
-use Rattle.tip5.proofs.FieldLaws.{add-below, power-below, rawOf-below, sub-below}
-use Rattle.tip5.proofs.JudgeLaws.{Below}
-use Rattle.tip5.proofs.LookupLaws.{invLookup-below, lookup-below}
+use Rattle.rounds.specs.Inverse.{invPermuted, invRound, invSbox, invSboxLayer, subConstants, unrounds}
+use Rattle.rounds.specs.Round.{addConstants, circulant, constant, permuted, round, rounds, sbox, sboxLayer}
+use Rattle.rounds.proofs.FieldLaws.{add-below, power-below, rawOf-below, sub-below}
+use Rattle.rounds.specs.Field.{Below}
+use Rattle.rounds.proofs.LookupLaws.{invLookup-below, lookup-below}
 
 -- a list that is made by a function into numbers below P
 pub tab-below : (n i : ℕ) {f : ℕ → ℕ} → ((c : ℕ) → f c < P) → Below (tab n i f)

@@ -2,7 +2,7 @@
 // names each once and lends it to the rounds.
 
 // What each byte of words 0 to 3 is looked up in.
-pub(crate) const LOOKUP_TABLE: [u8; 256] = [
+pub const LOOKUP_TABLE: [u8; 256] = [
     0,
     7,
     26,
@@ -262,7 +262,7 @@ pub(crate) const LOOKUP_TABLE: [u8; 256] = [
 ];
 
 // The raw words of the round constants: round i adds entries 16 * i to 16 * i + 15.
-pub(crate) const ROUND_CONSTANTS: [u64; 80] = [
+pub const ROUND_CONSTANTS: [u64; 80] = [
     7037825344483254583,
     15660281237101973268,
     11663766947456533322,

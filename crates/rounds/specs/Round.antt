@@ -8,8 +8,8 @@ use Rattle.matrix.specs.Column.{mdsColumn}
 use Rattle.numbers.specs.Circulant.{rowSum}
 use Rattle.numbers.specs.Lists.{tab, total}
 use Rattle.numbers.specs.Modulus.{P}
-use Rattle.tip5.specs.Constants.{roundConstants}
-use Rattle.tip5.specs.Field.{add, power, rawOf}
+use Rattle.rounds.specs.Constants.{roundConstants}
+use Rattle.rounds.specs.Field.{add, power, rawOf}
 
 -- entry b of `LOOKUP_TABLE`: the cube rule
 unfoldable pub lookupByte : ℕ → ℕ

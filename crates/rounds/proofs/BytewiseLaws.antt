@@ -7,7 +7,7 @@ use native.Mathlib.Omega.{arith}
 use lib.Dec.{lit<}
 use Rattle.numbers.specs.Lists.{total}
 use Rattle.numbers.proofs.Lists.{total-same}
-use Rattle.tip5.specs.Round.{bytewise}
+use Rattle.rounds.specs.Round.{bytewise}
 
 pub bytewise-same : {f g : ℕ → ℕ} (w : ℕ) → ((b : ℕ) → b < 256 → f b ≡ g b) → bytewise f w ≡ bytewise g w
 unfolding bytewise

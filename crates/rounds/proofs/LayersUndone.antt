@@ -10,13 +10,13 @@ use lib.ListN.{length, getD}
 use Rattle.numbers.specs.Lists.{tab}
 use Rattle.numbers.specs.Modulus.{P, rootExponent}
 use Rattle.numbers.proofs.Lists.{getD-tab₀, tab-unique}
-use Rattle.tip5.specs.Field.{add, power, sub}
-use Rattle.tip5.specs.Inverse.{invLookup, invSbox, invSboxLayer, subConstants}
-use Rattle.tip5.specs.Round.{addConstants, constant, lookup, sbox, sboxLayer}
-use Rattle.tip5.proofs.FieldUndone.{add-sub, root-seventh, seventh-root, sub-add}
-use Rattle.tip5.proofs.JudgeLaws.{Below}
-use Rattle.tip5.proofs.LookupLaws.{invLookup-lookup, lookup-invLookup}
-use Rattle.tip5.proofs.RoundLaws.{constant-below}
+use Rattle.rounds.specs.Field.{add, power, sub}
+use Rattle.rounds.specs.Inverse.{invLookup, invSbox, invSboxLayer, subConstants}
+use Rattle.rounds.specs.Round.{addConstants, constant, lookup, sbox, sboxLayer}
+use Rattle.rounds.proofs.FieldUndone.{add-sub, root-seventh, seventh-root, sub-add}
+use Rattle.rounds.specs.Field.{Below}
+use Rattle.rounds.proofs.LookupLaws.{invLookup-lookup, lookup-invLookup}
+use Rattle.rounds.proofs.RoundLaws.{constant-below}
 
 -- two layers that work word by word undo each other where their words do
 layer-undone : (f g : ℕ → ℕ → ℕ) (s : List ℕ) → length s ≡ 16 → ((r : ℕ) → f r (g r (getD s r 0)) ≡ getD s r 0)

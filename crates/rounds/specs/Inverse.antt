@@ -1,17 +1,14 @@
--- The way back: each round and the permutation undone, step by step, the plain way, and what the calls answer.
+-- The way back: each round and the permutation undone, step by step, the plain way.
 use mathlib.Core.Bool.{cond}
-use mathlib.Core.List.{List, [], _∷_}
+use mathlib.Core.List.{List}
 use Prim.Native.Nat.{ℕ, zero, suc, _+_, _-_, _%_, _^_}
 use lib.Dec.{ltb}
 use lib.ListN.{getD}
 use Rattle.numbers.specs.Lists.{tab}
 use Rattle.numbers.specs.Modulus.{rootExponent}
-use Rattle.tip5.specs.declared.permutation.StateAnswer.{StateAnswer}
-use Rattle.tip5.specs.Constants.{invMdsColumn}
-use Rattle.tip5.specs.Field.{power, sub}
-use Rattle.tip5.specs.Judge.{first, wordRefusal}
-use Rattle.tip5.specs.Permutation.{nextState, roundRefusal}
-use Rattle.tip5.specs.Round.{bytewise, circulant, constant}
+use Rattle.rounds.specs.Constants.{invMdsColumn}
+use Rattle.rounds.specs.Field.{power, sub}
+use Rattle.rounds.specs.Round.{bytewise, circulant, constant}
 
 -- entry b of `INV_LOOKUP_TABLE`: modulo the prime 257 the power by 171 undoes a cube, because 3 * 171 is 2 * 256 + 1
 unfoldable pub invLookupByte : ℕ → ℕ
@@ -43,11 +40,3 @@ unrounds (suc n) s = unrounds n (invRound n s)
 -- rounds 4 down to 0
 unfoldable pub invPermuted : List ℕ → List ℕ
 invPermuted s = unrounds 5 s
-
--- what the calls answer: the refusals are those of the permutation
-
-abbrev pub invPermutation : List ℕ → StateAnswer
-invPermutation s = nextState (wordRefusal s) (invPermuted s) s
-
-abbrev pub invOneRound : (i : ℕ) → List ℕ → StateAnswer
-invOneRound i s = nextState (first (roundRefusal i ∷ wordRefusal s ∷ [])) (invRound i s) s

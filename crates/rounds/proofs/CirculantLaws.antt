@@ -20,9 +20,9 @@ use Rattle.numbers.specs.Table.{each}
 use Rattle.numbers.proofs.Congruence.{cong-eq, cong-mod, cong-mul, cong-refl, cong-remainder, cong-sym, cong-total, cong-trans}
 use Rattle.numbers.proofs.Lists.{getD-tab₀, tab-unique, total-exchange, total-mul, total-mul-right, total-same}
 use Rattle.numbers.proofs.Table.{each-at}
-use Rattle.tip5.specs.Constants.{invMdsColumn}
-use Rattle.tip5.specs.Round.{circulant}
-use Rattle.tip5.proofs.JudgeLaws.{Below}
+use Rattle.rounds.specs.Constants.{invMdsColumn}
+use Rattle.rounds.specs.Round.{circulant}
+use Rattle.rounds.specs.Field.{Below}
 
 -- Sums
 

@@ -8,8 +8,8 @@ use native.Mathlib.Nat.{eq-or-lt-of-le, le-of-suc-le-suc}
 use native.Mathlib.Omega.{arith}
 use lib.Dec.{lit<}
 use Rattle.numbers.specs.Modulus.{P}
-use Rattle.tip5.specs.Round.{bytewise}
-use Rattle.tip5.proofs.BytewiseUndone.{Bytes, byte-below, bytewise-whole}
+use Rattle.rounds.specs.Round.{bytewise}
+use Rattle.rounds.proofs.BytewiseUndone.{Bytes, byte-below, bytewise-whole}
 
 -- a function that takes 0 to 0, and 255 and no other byte to 255
 pub record Ends (f : ℕ → ℕ) : Type 0 where

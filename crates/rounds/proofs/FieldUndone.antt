@@ -7,8 +7,8 @@ use native.Mathlib.Omega.{arith}
 use Rattle.numbers.specs.Modulus.{P, rootExponent}
 use Rattle.numbers.proofs.Congruence.{cong-add, cong-eq, cong-mod, cong-multiple, cong-refl, cong-remainder, cong-trans, mod-pow-pow}
 use Rattle.numbers.proofs.Roots.{power-returns-P, seven-roots}
-use Rattle.tip5.specs.Field.{add, power, rawOf, sub, valueOf}
-use Rattle.tip5.proofs.FieldLaws.{rawOf-mod, rawOf-valueOf, valueOf-below, valueOf-rawOf-mod}
+use Rattle.rounds.specs.Field.{add, power, rawOf, sub, valueOf}
+use Rattle.rounds.proofs.FieldLaws.{rawOf-mod, rawOf-valueOf, valueOf-below, valueOf-rawOf-mod}
 
 -- Sums
 

@@ -6,9 +6,9 @@ use native.Mathlib.Omega.{arith}
 use lib.Dec.{leb, leb→le}
 use lib.ListN.{getD}
 use Rattle.numbers.proofs.Table.{each-at}
-use Rattle.tip5.specs.Constants.{roundConstants}
-use Rattle.tip5.specs.Field.{rawOf}
-use Rattle.tip5.specs.Round.{constant}
+use Rattle.rounds.specs.Constants.{roundConstants}
+use Rattle.rounds.specs.Field.{rawOf}
+use Rattle.rounds.specs.Round.{constant}
 
 -- P - 2 ^ 32 + 1
 abbrev pub largestMended : ℕ

@@ -2,7 +2,7 @@
 // inverse permutation names each once and lends it to the rounds.
 
 // What each byte of words 0 to 3 is looked up in: LOOKUP_TABLE undone.
-pub(crate) const INV_LOOKUP_TABLE: [u8; 256] = [
+pub const INV_LOOKUP_TABLE: [u8; 256] = [
     0,
     248,
     146,
@@ -262,7 +262,7 @@ pub(crate) const INV_LOOKUP_TABLE: [u8; 256] = [
 ];
 
 // The first column of the inverse matrix, as raw words.
-pub(crate) const INV_MDS_MATRIX_FIRST_COLUMN: [u64; 16] = [
+pub const INV_MDS_MATRIX_FIRST_COLUMN: [u64; 16] = [
     8843870954199156332,
     16505788454643163099,
     13962177385356706920,
