@@ -7,7 +7,7 @@ use lib.Dec.{lit<}
 use lib.Pow.{pow-add}
 use Rattle.numbers.specs.Modulus.{P, rInv}
 use Rattle.numbers.specs.Congruence.{Cong}
-use Rattle.numbers.proofs.Congruence.{cong-add, cong-refl, mod-mul, mod-mul-left, mod-mul-right}
+use Rattle.numbers.proofs.Congruence.{cong-add, cong-refl, mod-mul, mod-mul-left}
 use Rattle.numbers.proofs.Montgomery.{raw-value-raw, value-raw-value}
 use Rattle.rounds.specs.Field.{rawOf, valueOf, add, sub, mul, power}
 

@@ -10,11 +10,10 @@ use lib.ListN.{length, getD}
 use Rattle.numbers.specs.Lists.{tab}
 use Rattle.numbers.specs.Modulus.{P, rootExponent}
 use Rattle.numbers.proofs.Lists.{getD-tab₀, tab-unique}
-use Rattle.rounds.specs.Field.{add, power, sub}
+use Rattle.rounds.specs.Field.{add, power, sub, Below}
 use Rattle.rounds.specs.Inverse.{invLookup, invSbox, invSboxLayer, subConstants}
 use Rattle.rounds.specs.Round.{addConstants, constant, lookup, sbox, sboxLayer}
 use Rattle.rounds.proofs.FieldUndone.{add-sub, root-seventh, seventh-root, sub-add}
-use Rattle.rounds.specs.Field.{Below}
 use Rattle.rounds.proofs.LookupLaws.{invLookup-lookup, lookup-invLookup}
 use Rattle.rounds.proofs.RoundLaws.{constant-below}
 

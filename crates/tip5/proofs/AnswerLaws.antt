@@ -3,11 +3,10 @@
 use mathlib.Core.List.{List, [], _∷_}
 use mathlib.Core.Path.{_≡_, refl, sym, ap, _∙_}
 use Prim.Native.Nat.{ℕ, zero, suc, _≤_, _<_}
-use borrow.Author.Tests.{eq-eqb, le-ltb, lt-ltb, ne-eqb}
-use lib.ListN.{length}
+use borrow.Author.Tests.{le-ltb, lt-ltb}
 use Rattle.tip5.specs.declared.permutation.StateAnswer.{StateAnswer}
-use Rattle.tip5.specs.Judge.{first, unless, wordRefusal}
-use Rattle.tip5.specs.Permutation.{nextState, roundRefusal, sliceRefusal}
+use Rattle.tip5.specs.Judge.{first, unless}
+use Rattle.tip5.specs.Permutation.{nextState, roundRefusal}
 
 pub unless-granted : {A : Type 0} {n : ℕ} (answer room : A) → n ≡ 0 → unless n answer room ≡ answer
 unless-granted answer room e = ap (λ (k : ℕ). unless k answer room) e
@@ -37,22 +36,3 @@ round-accepted n h = simp (lt-ltb _ _ h) (first-one n)
 
 pub round-refused : {i : ℕ} (ns : List ℕ) → 5 ≤ i → first (roundRefusal i ∷ ns) ≡ 8
 round-refused ns h = simp (le-ltb _ _ h)
-
--- a lent slice: which refusal it has, and what stands in it after
-
-pub length-refused : (s : List ℕ) → (length s ≡ 16 → ⊥) → sliceRefusal s ≡ 2
-length-refused s h = simp (ne-eqb _ _ h)
-
-pub length-accepted : (s : List ℕ) → length s ≡ 16 → sliceRefusal s ≡ wordRefusal s
-length-accepted s h = simp (eq-eqb _ _ h) (first-one (wordRefusal s))
-
--- what a call in place promises: its refusal, and the slice moved or left alone
-abbrev pub InPlace : (refusal : ℕ) (next before : List ℕ) (r : ℕ) (after : List ℕ) → Type 0
-InPlace n next s r after = (r ≡ n) × (after ≡ unless n next s)
-
-pub in-place-refused : {n m : ℕ} (next s : List ℕ) → m ≡ suc n → InPlace m next s (suc n) s
-in-place-refused {n} next s e = (sym e, ap (λ (k : ℕ). unless k next s) (sym e))
-
-pub in-place-moved : {n m : ℕ} (next s : List ℕ) {after : List ℕ} {a : StateAnswer} → a ≡ nextState n next s → after ≡ a .state → m ≡ n → InPlace m next s (a .refusal) after
-in-place-moved next s e put same =
-    (ap (λ (x : StateAnswer). x .refusal) e ∙ sym same, put ∙ ap (λ (x : StateAnswer). x .state) e ∙ ap (λ (k : ℕ). unless k next s) (sym same))

@@ -7,7 +7,6 @@ use Prim.Native.Nat.{ℕ, zero, suc, _<_}
 use native.Mathlib.Omega.{arith}
 use borrow.Author.Tests.{lt-ltb}
 use lib.Dec.{T, lit<, ltb, ltb→lt}
-use lib.ListN.{getD}
 use Rattle.numbers.specs.Modulus.{P}
 use Rattle.rounds.specs.Field.{Below}
 use Rattle.tip5.specs.Judge.{allBelow, wordRefusal}

@@ -9,4 +9,3 @@ pub mod PowersLaws
 pub mod ReducedLaws
 pub mod RowLaws
 pub mod SboxLaws
-pub mod TraceLaws

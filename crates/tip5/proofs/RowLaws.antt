@@ -8,16 +8,7 @@ use native.Mathlib.Omega.{arith}
 use Rattle.numbers.specs.Congruence.{Cong}
 use Rattle.numbers.specs.Lists.{total}
 use Rattle.numbers.specs.Modulus.{P, rInv}
-use Rattle.numbers.proofs.Congruence.{
-  cong-add,
-  cong-eq,
-  cong-mod,
-  cong-mul,
-  cong-refl,
-  cong-remainder,
-  cong-sym,
-  cong-trans,
-}
+use Rattle.numbers.proofs.Congruence.{cong-add, cong-eq, cong-mod, cong-mul, cong-refl, cong-remainder, cong-sym, cong-trans}
 use Rattle.numbers.proofs.Montgomery.{rInv-inverse}
 use Rattle.rounds.specs.Field.{add, mul, rawOf}
 

@@ -1,6 +1,5 @@
 -- The s-box and its inverse word by word: words 0 to 3 by a table of bytes, the others by a power.
 -- Assumes nothing.
-use mathlib.Core.Bool.{cond}
 use mathlib.Core.List.{List}
 use mathlib.Core.Path.{_≡_, sym, _∙_}
 use Prim.Native.Nat.{ℕ, _≤_, _<_}

@@ -5,8 +5,6 @@ use crate::permutation::StateAnswer;
 use crate::permutation::Way;
 use crate::permutation::judged;
 use crate::permutation::judged_round;
-use crate::permutation::judged_slice;
-use crate::permutation::judged_slice_round;
 use rounds::inverse_tables;
 use rounds::tables;
 ghost use mathlib.Core.Path.{_≡_};
@@ -16,9 +14,7 @@ ghost use Rattle.numbers.specs.Modulus.{P};
 ghost use Rattle.tip5.specs.Permutation.{invOneRound, invPermutation};
 ghost use Rattle.rounds.specs.Inverse.{invPermuted, invRound};
 ghost use Rattle.rounds.specs.InverseTables.{invLookupTable, rawInvColumn};
-ghost use Rattle.tip5.specs.Judge.{unless};
 ghost use Rattle.tip5.specs.Moves.{moved};
-ghost use Rattle.tip5.specs.Permutation.{roundSliceRefusal, sliceRefusal};
 ghost use Rattle.rounds.specs.Tables.{rawConstants};
 
 fn inv_round_with(
@@ -80,20 +76,4 @@ pub fn inv_round(round: usize, state: [u64; 16]) -> StateAnswer
     ensures { λ r. ⌜ r ≡ invOneRound round state ⌝ }
 {
     judged_round(Way::Back, round, state)
-}
-
-// The inverse permutation of a lent slice in place.
-pub fn inv_permute(state: &mut [u64]) -> u8
-    ensures { λ r. ⌜ r ≡ sliceRefusal (now (state .entry)) ⌝ }
-    ensures { λ r. ⌜ now (state .exit) ≡ unless (sliceRefusal (now (state .entry))) (invPermuted (now (state .entry))) (now (state .entry)) ⌝ }
-{
-    judged_slice(Way::Back, 5, state)
-}
-
-// One round undone in a lent slice.
-pub fn inv_permute_round(round: usize, state: &mut [u64]) -> u8
-    ensures { λ r. ⌜ r ≡ roundSliceRefusal round (now (state .entry)) ⌝ }
-    ensures { λ r. ⌜ now (state .exit) ≡ unless (roundSliceRefusal round (now (state .entry))) (invRound round (now (state .entry))) (now (state .entry)) ⌝ }
-{
-    judged_slice_round(Way::Back, round, state)
 }

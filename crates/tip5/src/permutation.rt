@@ -5,13 +5,12 @@ use crate::layers;
 use crate::refusal;
 use rounds::tables;
 ghost use mathlib.Core.Path.{_≡_};
-ghost use Prim.Native.Nat.{ℕ, _+_, _-_, _/_, _%_, _<_, _≤_};
-ghost use lib.ListN.{getD, length};
+ghost use Prim.Native.Nat.{ℕ, _<_, _≤_};
+ghost use lib.ListN.{getD};
 ghost use Rattle.numbers.specs.Modulus.{P};
-ghost use Rattle.tip5.specs.Judge.{unless};
-ghost use Rattle.tip5.specs.Moves.{movedAnswer, roundAnswer, roundOf};
+ghost use Rattle.tip5.specs.Moves.{movedAnswer, roundAnswer};
 ghost use Rattle.tip5.specs.Moves as Moves;
-ghost use Rattle.tip5.specs.Permutation.{oneRound, roundSliceRefusal, sixStates, sliceRefusal};
+ghost use Rattle.tip5.specs.Permutation.{oneRound};
 ghost use Rattle.tip5.specs.Permutation as Permutation;
 ghost use Rattle.rounds.specs.Round.{permuted};
 ghost use Rattle.rounds.specs.Round as Round;
@@ -24,15 +23,9 @@ pub struct StateAnswer {
 }
 
 // The permutation and its rounds, or the way back.
-pub(crate) enum Way {
+pub enum Way {
     Forth,
     Back,
-}
-
-// A refusal or 0, and six states one after another, all zero where the call is refused.
-pub struct TraceAnswer {
-    pub refusal: u8,
-    pub states: [u64; 96],
 }
 
 fn round_with(table: &[u8; 256], constants: &[u64; 80], round: usize, state: [u64; 16]) -> [u64; 16]
@@ -120,118 +113,4 @@ pub fn round(round: usize, state: [u64; 16]) -> StateAnswer
     ensures { λ r. ⌜ r ≡ oneRound round state ⌝ }
 {
     judged_round(Way::Forth, round, state)
-}
-
-// The state as it is or, where word k of the trace is the first of a later state, after one round
-// more.
-fn entering(k: usize, state: [u64; 16]) -> [u64; 16]
-    requires { ⌜ (k < 96) × ((k : ℕ) → getD state k 0 < P) ⌝ }
-    ensures { λ r. ⌜ r ≡ Permutation.entering k state ⌝ }
-{
-    if k % 16 != 0 {
-        return state;
-    }
-    if k == 0 {
-        return state;
-    }
-    rounds_of(k / 16 - 1, state)
-}
-
-fn six_states(state: [u64; 16]) -> [u64; 96]
-    requires { ⌜ ((k : ℕ) → getD state k 0 < P) ⌝ }
-    ensures { λ r. ⌜ r ≡ sixStates state ⌝ }
-{
-    let mut out = [0u64; 96];
-    let mut s = state;
-    let mut k = 0;
-    while k < 96 {
-        let next = entering(k, s);
-        s = next;
-        out[k] = next[k % 16];
-        k += 1;
-    }
-    out
-}
-
-// The state at entry and after each round, one after another. Nothing of the caller's moves.
-pub fn trace(state: [u64; 16]) -> TraceAnswer
-    ensures { λ r. ⌜ r ≡ Permutation.trace state ⌝ }
-{
-    let refusal = judge_words(&state);
-    if refusal != refusal::NONE {
-        return TraceAnswer {
-            refusal,
-            states: [0u64; 96],
-        };
-    }
-    TraceAnswer {
-        refusal,
-        states: six_states(state),
-    }
-}
-
-// The sixteen words of a slice, and sixteen words put into one.
-pub(crate) fn sixteen(words: &[u64]) -> [u64; 16]
-    requires { ⌜ length (now words) ≡ 16 ⌝ }
-    ensures { λ r. ⌜ r ≡ now (words .entry) ⌝ }
-{
-    let mut out = [0u64; 16];
-    let mut i = 0;
-    while i < 16 {
-        out[i] = words[i];
-        i += 1;
-    }
-    out
-}
-
-pub(crate) fn put(words: &mut [u64], state: [u64; 16])
-    requires { ⌜ length (now words) ≡ 16 ⌝ }
-    ensures { λ r. ⌜ now (words .exit) ≡ state ⌝ }
-{
-    let mut i = 0;
-    while i < 16 {
-        words[i] = state[i];
-        i += 1;
-    }
-}
-
-// Round 0 to 4 or, for 5, all five, of a lent slice in place.
-pub(crate) fn judged_slice(way: Way, which: usize, state: &mut [u64]) -> u8
-    requires { ⌜ which ≤ 5 ⌝ }
-    ensures { λ r. ⌜ r ≡ sliceRefusal (now (state .entry)) ⌝ }
-    ensures { λ r. ⌜ now (state .exit) ≡ unless (sliceRefusal (now (state .entry))) (Moves.moved way which (now (state .entry))) (now (state .entry)) ⌝ }
-{
-    if state.len() != 16 {
-        return refusal::WRONG_LENGTH;
-    }
-    let answer = judged(way, which, sixteen(state));
-    let next = answer.state;
-    put(state, next);
-    answer.refusal
-}
-
-pub(crate) fn judged_slice_round(way: Way, round: usize, state: &mut [u64]) -> u8
-    ensures { λ r. ⌜ r ≡ roundSliceRefusal round (now (state .entry)) ⌝ }
-    ensures { λ r. ⌜ now (state .exit) ≡ unless (roundSliceRefusal round (now (state .entry))) (roundOf way round (now (state .entry))) (now (state .entry)) ⌝ }
-{
-    if 5 <= round {
-        return refusal::NO_SUCH_ROUND;
-    }
-    judged_slice(way, round, state)
-}
-
-// The permutation of a lent slice in place.
-pub fn permute(state: &mut [u64]) -> u8
-    ensures { λ r. ⌜ r ≡ sliceRefusal (now (state .entry)) ⌝ }
-    ensures { λ r. ⌜ now (state .exit) ≡ unless (sliceRefusal (now (state .entry))) (permuted (now (state .entry))) (now (state .entry)) ⌝ }
-{
-    judged_slice(Way::Forth, 5, state)
-}
-
-// One round of a lent slice in place.
-pub fn permute_round(round: usize, state: &mut [u64]) -> u8
-    ensures { λ r. ⌜ r ≡ roundSliceRefusal round (now (state .entry)) ⌝ }
-    ensures { λ r. ⌜ now (state .exit) ≡ unless (roundSliceRefusal round (now (state .entry))) (Round.round round (now (state .entry))) (now (state .entry)) ⌝ }
-{
-    judged_slice_round(Way::Forth, round, state)
 }

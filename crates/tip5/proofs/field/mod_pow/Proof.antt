@@ -2,15 +2,15 @@
 -- the power that is wanted. The measure is what is left of the exponent.
 -- Assumes nothing.
 use mathlib.Core.Path.{_≡_, refl, ap, sym, _∙_, subst}
-use Prim.Native.Nat.{ℕ, _+_, _*_, _/_, _%_, _^_, _<_}
+use Prim.Native.Nat.{ℕ, _*_, _/_, _%_, _^_, _<_}
 use native.Mathlib.Nat.{mul-one, one-mul, mul-assoc, mul-comm, pow-zero, div-add-mod'}
 use native.Mathlib.Omega.{arith}
 use lib.Dec.{lit<}
 use Rattle.numbers.specs.Congruence.{Cong}
 use Rattle.numbers.specs.Modulus.{P}
-use Rattle.numbers.proofs.Congruence.{cong-eq, cong-mod, cong-mul, cong-pow, cong-refl, cong-sym, cong-trans}
+use Rattle.numbers.proofs.Congruence.{cong-eq, cong-mod, cong-mul, cong-pow, cong-trans}
 use Rattle.numbers.proofs.Power.{pow-square}
-use Rattle.rounds.specs.Field.{mul, power, rawOf, valueOf}
+use Rattle.rounds.specs.Field.{mul, power, valueOf}
 use Rattle.rounds.proofs.FieldLaws.{mul-below, rawOf-cong, rawOf-valueOf, valueOf-mul}
 use Rattle.tip5.proofs.field.mod_pow.Statement.{statement}
 use Rattle.tip5.proofs.field.mod_pow.Tie as tie

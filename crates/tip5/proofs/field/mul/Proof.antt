@@ -1,6 +1,6 @@
 -- `field::mul` meets its contract: the two halves make up the product, and the second factor is taken modulo P.
 -- Assumes nothing.
-use mathlib.Core.Path.{_≡_, sym, ap, _∙_}
+use mathlib.Core.Path.{_≡_, ap, _∙_}
 use Prim.Native.Nat.{ℕ, _+_, _*_, _/_, _%_, _^_}
 use native.Mathlib.Nat.{div-add-mod'}
 use borrow.Author.Needs.{needs}

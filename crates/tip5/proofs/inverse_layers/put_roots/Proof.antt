@@ -3,7 +3,7 @@
 use mathlib.Core.Bool.{cond}
 use mathlib.Core.List.{List}
 use mathlib.Core.Path.{_≡_, ap, subst, subst⁻¹, sym, _∙_}
-use Prim.Native.Nat.{ℕ, _+_, _-_, _≤_, _<_}
+use Prim.Native.Nat.{ℕ, _+_, _-_, _<_, _≤_}
 use native.Mathlib.Decide.{decLt}
 use native.Mathlib.Omega.{arith}
 use borrow.Author.Tests.{le-ltb, lt-ltb}
@@ -14,10 +14,9 @@ use Rattle.numbers.specs.Lists.{tab}
 use Rattle.numbers.specs.Modulus.{rootExponent}
 use Rattle.numbers.proofs.Fill.{filled-more, filled-same}
 use Rattle.numbers.proofs.Lists.{getD-tab₀}
-use Rattle.rounds.specs.Field.{power}
+use Rattle.rounds.specs.Field.{power, Below}
 use Rattle.rounds.specs.Inverse.{invSbox}
 use Rattle.tip5.specs.Powers.{powers}
-use Rattle.rounds.specs.Field.{Below}
 use Rattle.tip5.proofs.PowersLaws.{powers-at}
 use Rattle.rounds.proofs.RoundLaws.{tab-below}
 use Rattle.tip5.proofs.SboxLaws.{invSbox-root}

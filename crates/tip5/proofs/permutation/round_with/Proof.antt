@@ -1,14 +1,13 @@
 -- `permutation::round_with` meets its contract.
 -- Assumes nothing.
-use mathlib.Core.Path.{_≡_, ap, _∙_}
+use mathlib.Core.Path.{ap, _∙_}
 use Prim.Native.Nat.{ℕ}
 use mathlib.Core.List.{List}
-use lib.ListN.{getD}
 use Rattle.matrix.specs.Column.{mdsColumn}
 use Rattle.numbers.specs.Circulant.{rowSum}
 use Rattle.numbers.specs.Lists.{tab}
 use Rattle.tip5.specs.Reduced.{reduced}
-use Rattle.rounds.specs.Round.{addConstants, circulant, round}
+use Rattle.rounds.specs.Round.{addConstants, round}
 use Rattle.tip5.proofs.MendedLaws.{mended-layer}
 use borrow.Author.Needs.{needs}
 use Rattle.tip5.proofs.permutation.round_with.Statement.{statement}

@@ -1,15 +1,15 @@
--- `permutation::put` meets its contract.
+-- `in_place::put` meets its contract.
 -- Assumes nothing.
 use mathlib.Core.Path.{refl, sym, _∙_}
-use Prim.Native.Nat.{ℕ, _-_}
+use Prim.Native.Nat.{_-_}
 use native.Mathlib.Omega.{arith}
 use borrow.Author.Needs.{needs}
 use lib.ListN.{getD}
 use Rattle.numbers.specs.Fill.{Filled}
 use Rattle.numbers.proofs.Fill.{filled-none, filled-more, filled-all}
 use Rattle.numbers.proofs.Lists.{tab-getD}
-use Rattle.tip5.proofs.permutation.put.Statement.{statement}
-use Rattle.tip5.proofs.permutation.put.Tie as tie
+use Rattle.states.proofs.in_place.put.Statement.{statement}
+use Rattle.states.proofs.in_place.put.Tie as tie
 
 abbrev Inv-loop : tie.InvT-loop
 Inv-loop words₀ state i₀ words i = Filled 16 (λ k. getD state k 0) i words

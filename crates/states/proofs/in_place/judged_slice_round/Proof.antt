@@ -1,15 +1,14 @@
--- `permutation::judged_slice_round` meets its contract.
+-- `in_place::judged_slice_round` meets its contract.
 -- Assumes nothing.
 use mathlib.Core.List.{[], _∷_}
-use mathlib.Core.Path.{sym, _∙_}
 use native.Mathlib.Nat.{le-of-lt}
 use borrow.Author.Needs.{needs}
 use Rattle.tip5.specs.Moves.{roundOf}
-use Rattle.tip5.specs.Permutation.{sliceRefusal}
-use Rattle.tip5.proofs.AnswerLaws.{in-place-refused, round-accepted, round-refused}
-use Rattle.tip5.proofs.MovesLaws.{slice-round}
-use Rattle.tip5.proofs.permutation.judged_slice_round.Statement.{statement}
-use Rattle.tip5.proofs.permutation.judged_slice_round.Tie as tie
+use Rattle.states.specs.InPlace.{sliceRefusal}
+use Rattle.tip5.proofs.AnswerLaws.{round-refused}
+use Rattle.states.proofs.InPlaceLaws.{in-place-refused, slice-round}
+use Rattle.states.proofs.in_place.judged_slice_round.Statement.{statement}
+use Rattle.states.proofs.in_place.judged_slice_round.Tie as tie
 
 returns : tie.Need-returns
 returns c =

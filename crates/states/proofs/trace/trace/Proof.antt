@@ -1,16 +1,14 @@
--- `permutation::trace` meets its contract.
+-- `trace::trace` meets its contract.
 -- Assumes nothing.
-use mathlib.Core.List.{List}
-use mathlib.Core.Path.{_≡_, sym, _∙_}
-use Prim.Native.Nat.{ℕ}
+use mathlib.Core.Path.{sym, _∙_}
 use Rattle.numbers.specs.Lists.{tab}
 use Rattle.tip5.specs.Judge.{wordRefusal}
-use Rattle.tip5.specs.Permutation.{sixStates}
+use Rattle.states.specs.Trace.{sixStates}
 use Rattle.tip5.proofs.AnswerLaws.{unless-granted, unless-refused}
 use Rattle.tip5.proofs.JudgeLaws.{accepted-below}
 use borrow.Author.Needs.{needs}
-use Rattle.tip5.proofs.permutation.trace.Statement.{statement}
-use Rattle.tip5.proofs.permutation.trace.Tie as tie
+use Rattle.states.proofs.trace.trace.Statement.{statement}
+use Rattle.states.proofs.trace.trace.Tie as tie
 
 slice-aggregate-judge-words : tie.Need-slice-aggregate-judge-words
 slice-aggregate-judge-words c = search needs

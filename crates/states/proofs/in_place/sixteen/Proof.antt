@@ -1,14 +1,14 @@
--- `permutation::sixteen` meets its contract.
+-- `in_place::sixteen` meets its contract.
 -- Assumes nothing.
 use mathlib.Core.Path.{refl, _∙_}
-use Prim.Native.Nat.{ℕ, _-_}
+use Prim.Native.Nat.{_-_}
 use native.Mathlib.Omega.{arith}
 use lib.ListN.{getD}
 use Rattle.numbers.specs.Fill.{Filled}
 use Rattle.numbers.proofs.Fill.{filled-none, filled-more, filled-all}
 use Rattle.numbers.proofs.Lists.{tab-getD}
-use Rattle.tip5.proofs.permutation.sixteen.Statement.{statement}
-use Rattle.tip5.proofs.permutation.sixteen.Tie as tie
+use Rattle.states.proofs.in_place.sixteen.Statement.{statement}
+use Rattle.states.proofs.in_place.sixteen.Tie as tie
 
 abbrev Inv-loop : tie.InvT-loop
 Inv-loop words out₀ i₀ out i = Filled 16 (λ k. getD words k 0) i out

@@ -1,13 +1,22 @@
 -- The trace word by word: where a state is entered, one round more stands behind it.
 -- Assumes nothing.
 use mathlib.Core.List.{List}
-use mathlib.Core.Path.{_≡_, refl, sym, ap, subst, _∙_}
-use Prim.Native.Nat.{ℕ, suc, _-_, _/_, _%_}
+use mathlib.Core.Path.{_≡_, sym, ap, _∙_}
+use Prim.Native.Nat.{ℕ, suc, _-_, _/_, _%_, _<_}
 use native.Mathlib.Decide.{ℕ-discrete}
 use native.Mathlib.Omega.{arith}
 use borrow.Author.Tests.{eq-eqb, ne-eqb}
-use Rattle.tip5.specs.Permutation.{entering}
+use Rattle.states.specs.Trace.{entering}
+use Rattle.rounds.specs.Field.{Below}
 use Rattle.rounds.specs.Round.{round, rounds}
+use Rattle.tip5.specs.Judge.{wordRefusal}
+use Rattle.tip5.specs.Permutation.{oneRound}
+use Rattle.tip5.proofs.AnswerLaws.{round-accepted, unless-granted}
+use Rattle.tip5.proofs.JudgeLaws.{below-accepted}
+
+-- the state that a call for one round answers, where it is not refused
+pub round-granted : {i : ℕ} (s : List ℕ) → i < 5 → Below s → oneRound i s .state ≡ round i s
+round-granted s h b = unless-granted (round _ s) s (round-accepted (wordRefusal s) h ∙ below-accepted s b)
 
 -- what `entering` is in its three cases
 

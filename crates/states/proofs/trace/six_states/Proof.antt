@@ -1,20 +1,19 @@
--- `permutation::six_states` meets its contract.
+-- `trace::six_states` meets its contract.
 -- Assumes nothing.
 use mathlib.Core.List.{List}
-use mathlib.Core.Path.{_≡_, refl, ap, subst⁻¹, sym, _∙_}
-use Prim.Native.Nat.{ℕ, _+_, _-_, _*_, _/_, _%_, _<_}
+use mathlib.Core.Path.{_≡_, refl, ap, subst⁻¹, _∙_}
+use Prim.Native.Nat.{ℕ, _-_, _/_, _%_}
 use native.Mathlib.Omega.{arith}
-use borrow.Author.Needs.{needs}
 use lib.ListN.{getD}
 use Rattle.numbers.specs.Fill.{Filled}
 use Rattle.numbers.proofs.Fill.{filled-none, filled-more, filled-all}
-use Rattle.tip5.specs.Permutation.{entering, sixStates}
+use Rattle.states.specs.Trace.{entering, sixStates}
 use Rattle.rounds.specs.Round.{rounds}
 use Rattle.rounds.specs.Field.{Below}
 use Rattle.rounds.proofs.RoundLaws.{rounds-below}
-use Rattle.tip5.proofs.TraceLaws.{entering-rounds}
-use Rattle.tip5.proofs.permutation.six_states.Statement.{statement}
-use Rattle.tip5.proofs.permutation.six_states.Tie as tie
+use Rattle.states.proofs.TraceLaws.{entering-rounds}
+use Rattle.states.proofs.trace.six_states.Statement.{statement}
+use Rattle.states.proofs.trace.six_states.Tie as tie
 
 abbrev Inv-loop : tie.InvT-loop
 Inv-loop out₀ s₀ k₀ out s k = (s ≡ rounds ((k - 1) / 16) s₀) × Filled 96 (λ j. getD (rounds (j / 16) s₀) (j % 16) 0) k out

@@ -1,11 +1,11 @@
--- `permutation::judged_slice` meets its contract.
+-- `in_place::judged_slice` meets its contract.
 -- Assumes nothing.
 use mathlib.Core.Path.{ap, _∙_}
 use Rattle.tip5.specs.Moves.{moved, movedAnswer}
-use Rattle.tip5.proofs.AnswerLaws.{in-place-moved, in-place-refused, length-accepted, length-refused}
+use Rattle.states.proofs.InPlaceLaws.{in-place-moved, in-place-refused, length-accepted, length-refused}
 use borrow.Author.Needs.{needs}
-use Rattle.tip5.proofs.permutation.judged_slice.Statement.{statement}
-use Rattle.tip5.proofs.permutation.judged_slice.Tie as tie
+use Rattle.states.proofs.in_place.judged_slice.Statement.{statement}
+use Rattle.states.proofs.in_place.judged_slice.Tie as tie
 
 returns : tie.Need-returns
 returns c =
@@ -16,8 +16,8 @@ returns c =
 sixteen-requires : tie.Need-sixteen-requires
 sixteen-requires c κs = search needs
 
-judged-requires : tie.Need-judged-requires
-judged-requires c κs = c .before .before .before .before .pre
+answered-requires : tie.Need-answered-requires
+answered-requires c κs = c .before .before .before .before .pre
 
 put-requires : tie.Need-put-requires
 put-requires c κs = search needs
@@ -30,10 +30,10 @@ returns-2 c =
     let a = c .before .before .before .before .before .before .before .before .before .before .args in
     let s = a .state .now in
     let at-sixteen = c .before .before .before .before .before .before in
-    in-place-moved (moved (a .way) (a .which) s) s (c .before .before .before .before .before .judged .ensures ∙ ap (movedAnswer (a .way) (a .which)) (at-sixteen .sixteen .ensures))
+    in-place-moved (moved (a .way) (a .which) s) s (c .before .before .before .before .before .answered .ensures ∙ ap (movedAnswer (a .way) (a .which)) (at-sixteen .sixteen .ensures))
     (c .before .before .put .ensures) (length-accepted s (at-sixteen .before .before .if1 .left))
 
 pub judged-slice-spec : {M : Type 1} → statement M
 judged-slice-spec =
     tie.close
-    (tie.spec returns sixteen-requires judged-requires put-requires same-length returns-2)
+    (tie.spec returns sixteen-requires answered-requires put-requires same-length returns-2)
