@@ -5,13 +5,13 @@ use Rattle.outcomes.specs.Outcome.{OneAnswer, OneExit}
 use Rattle.outcomes.proofs.Same.{same}
 use Rattle.tip5.proofs.permutation.permutation.Reads as permutation
 use Rattle.tip5.proofs.permutation.round.Reads as round
-use Rattle.tip5.proofs.permutation.trace.Reads as trace
-use Rattle.tip5.proofs.permutation.permute.Reads as permute
-use Rattle.tip5.proofs.permutation.permute_round.Reads as permute-round
+use Rattle.states.proofs.trace.trace.Reads as trace
+use Rattle.states.proofs.in_place.permute.Reads as permute
+use Rattle.states.proofs.in_place.permute_round.Reads as permute-round
 use Rattle.tip5.proofs.inverse.inv_permutation.Reads as inv-permutation
 use Rattle.tip5.proofs.inverse.inv_round.Reads as inv-round
-use Rattle.tip5.proofs.inverse.inv_permute.Reads as inv-permute
-use Rattle.tip5.proofs.inverse.inv_permute_round.Reads as inv-permute-round
+use Rattle.states.proofs.in_place.inv_permute.Reads as inv-permute
+use Rattle.states.proofs.in_place.inv_permute_round.Reads as inv-permute-round
 use Rattle.tip5_c.proofs.tip5_permutation.Reads as tip5-permutation
 use Rattle.tip5_c.proofs.tip5_inverse_permutation.Reads as tip5-inverse-permutation
 

@@ -13,7 +13,7 @@ use Rattle.tip5.specs.Element.{elementOf}
 use Rattle.tip5.specs.declared.b_field_element.ElementAnswer.{ElementAnswer}
 use Rattle.tip5.specs.declared.b_field_element.ValueAnswer.{ValueAnswer}
 use Rattle.tip5.specs.declared.b_field_element.WordAnswer.{WordAnswer}
-use Rattle.tip5.specs.declared.permutation.TraceAnswer.{TraceAnswer}
+use Rattle.states.specs.declared.trace.TraceAnswer.{TraceAnswer}
 
 -- The field and the permutation
 

@@ -1,13 +1,14 @@
 // The permutation, a round, the trace and the matrix function behind them.
-use tip5::permutation;
+use states::in_place;
+use states::trace;
 ghost use mathlib.Core.Path.{_≡_};
 ghost use Prim.Native.Nat.{_*_, _%_, _^_};
 ghost use Rattle.numbers.specs.Lists.{tab};
 ghost use Rattle.numbers.specs.Circulant.{rowSum};
 ghost use Rattle.matrix.specs.Column.{mdsColumn};
 ghost use Rattle.tip5.specs.Judge.{unless};
-ghost use Rattle.tip5.specs.Permutation.{roundSliceRefusal, sliceRefusal};
-ghost use Rattle.tip5.specs.Permutation as Permutation;
+ghost use Rattle.states.specs.InPlace.{roundSliceRefusal, sliceRefusal};
+ghost use Rattle.states.specs.Trace as Trace;
 ghost use Rattle.rounds.specs.Round.{permuted};
 ghost use Rattle.rounds.specs.Round as Round;
 ghost use Rattle.probe.specs.Answers.{traceAnswer};
@@ -17,7 +18,7 @@ pub extern "C" fn probe_permutation(state: &mut [u64]) -> u32
     ensures { λ r. ⌜ r ≡ sliceRefusal (now (state .entry)) ⌝ }
     ensures { λ r. ⌜ now (state .exit) ≡ unless (sliceRefusal (now (state .entry))) (permuted (now (state .entry))) (now (state .entry)) ⌝ }
 {
-    permutation::permute(state) as u32
+    in_place::permute(state) as u32
 }
 
 #[no_mangle]
@@ -25,14 +26,14 @@ pub extern "C" fn probe_round(round: usize, state: &mut [u64]) -> u32
     ensures { λ r. ⌜ r ≡ roundSliceRefusal round (now (state .entry)) ⌝ }
     ensures { λ r. ⌜ now (state .exit) ≡ unless (roundSliceRefusal round (now (state .entry))) (Round.round round (now (state .entry))) (now (state .entry)) ⌝ }
 {
-    permutation::permute_round(round, state) as u32
+    in_place::permute_round(round, state) as u32
 }
 
 #[no_mangle]
 pub extern "C" fn probe_trace(state: &[u64; 16], six: &mut [u64; 96]) -> u32
-    ensures { λ r. ⌜ traceAnswer r (now (six .exit)) ≡ Permutation.trace (now (state .entry)) ⌝ }
+    ensures { λ r. ⌜ traceAnswer r (now (six .exit)) ≡ Trace.trace (now (state .entry)) ⌝ }
 {
-    let answer = permutation::trace(*state);
+    let answer = trace::trace(*state);
     let states = answer.states;
     *six = states;
     answer.refusal as u32

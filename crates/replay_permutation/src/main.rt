@@ -5,6 +5,8 @@ mod vectors;
 use replay::differ;
 use replay::part;
 use replay::sixteen;
+use states::in_place;
+use states::trace;
 use tip5::inverse;
 use tip5::permutation;
 use tip5::permutation::StateAnswer;
@@ -13,7 +15,7 @@ use tip5::permutation::StateAnswer;
 const ANSWERS: u64 = 25;
 
 // 1 where the answer is refused or holds another state, otherwise 0.
-fn by_value(answer: StateAnswer, want: &[u64]) -> u64 {
+fn differ_by_value(answer: StateAnswer, want: &[u64]) -> u64 {
     if answer.refusal != 0 {
         return 1;
     }
@@ -22,31 +24,31 @@ fn by_value(answer: StateAnswer, want: &[u64]) -> u64 {
 }
 
 // The same of an answer in place.
-fn in_place(refusal: u8, got: &[u64], want: &[u64]) -> u64 {
+fn differ_in_place(refusal: u8, got: &[u64], want: &[u64]) -> u64 {
     if refusal != 0 {
         return 1;
     }
     differ(got, want)
 }
 
-fn of_trace(trace: &[u64]) -> u64 {
-    let answer = permutation::trace(sixteen(trace));
+fn of_trace(states: &[u64]) -> u64 {
+    let answer = trace::trace(sixteen(states));
     let got = answer.states;
-    in_place(answer.refusal, &got, trace)
+    differ_in_place(answer.refusal, &got, states)
 }
 
 fn permuted(entry: &[u64], want: &[u64]) -> u64 {
     let mut lent = sixteen(entry);
-    let one = by_value(permutation::permutation(lent), want);
-    let refusal = permutation::permute(&mut lent);
-    std::num::wrapping_add_u64(one, in_place(refusal, &lent, want))
+    let one = differ_by_value(permutation::permutation(lent), want);
+    let refusal = in_place::permute(&mut lent);
+    std::num::wrapping_add_u64(one, differ_in_place(refusal, &lent, want))
 }
 
 fn walked_back(entry: &[u64], want: &[u64]) -> u64 {
     let mut lent = sixteen(entry);
-    let one = by_value(inverse::inv_permutation(lent), want);
-    let refusal = inverse::inv_permute(&mut lent);
-    std::num::wrapping_add_u64(one, in_place(refusal, &lent, want))
+    let one = differ_by_value(inverse::inv_permutation(lent), want);
+    let refusal = in_place::inv_permute(&mut lent);
+    std::num::wrapping_add_u64(one, differ_in_place(refusal, &lent, want))
 }
 
 fn of_permutation(before: &[u64], after: &[u64]) -> u64 {
@@ -55,16 +57,16 @@ fn of_permutation(before: &[u64], after: &[u64]) -> u64 {
 
 fn moved(round: usize, entry: &[u64], want: &[u64]) -> u64 {
     let mut lent = sixteen(entry);
-    let one = by_value(permutation::round(round, lent), want);
-    let refusal = permutation::permute_round(round, &mut lent);
-    std::num::wrapping_add_u64(one, in_place(refusal, &lent, want))
+    let one = differ_by_value(permutation::round(round, lent), want);
+    let refusal = in_place::permute_round(round, &mut lent);
+    std::num::wrapping_add_u64(one, differ_in_place(refusal, &lent, want))
 }
 
 fn moved_back(round: usize, entry: &[u64], want: &[u64]) -> u64 {
     let mut lent = sixteen(entry);
-    let one = by_value(inverse::inv_round(round, lent), want);
-    let refusal = inverse::inv_permute_round(round, &mut lent);
-    std::num::wrapping_add_u64(one, in_place(refusal, &lent, want))
+    let one = differ_by_value(inverse::inv_round(round, lent), want);
+    let refusal = in_place::inv_permute_round(round, &mut lent);
+    std::num::wrapping_add_u64(one, differ_in_place(refusal, &lent, want))
 }
 
 fn of_round(round: usize, before: &[u64], after: &[u64]) -> u64 {
