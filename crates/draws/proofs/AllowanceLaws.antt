@@ -14,7 +14,7 @@ use Rattle.draws.specs.Answers.{drawRefusal, drawn, foundRefusal, sample
 use Rattle.draws.specs.Bound.{powerBelow}
 use Rattle.draws.specs.Draw.{Draw, draw, joined, nothing}
 use Rattle.sponge.specs.declared.Tip5.{Tip5}
-use Rattle.sponge.proofs.RefusalLaws.{none-first}
+use Rattle.tip5.proofs.RefusalLaws.{none-first}
 use Rattle.tip5.specs.Judge.{allBelow, first, unless}
 use Rattle.draws.proofs.DrawLaws.{draw-add, draw-missing, draw-none, joined-nothing}
 

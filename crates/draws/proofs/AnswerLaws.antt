@@ -13,7 +13,7 @@ use Rattle.sponge.specs.declared.Tip5.{Tip5}
 use Rattle.sponge.specs.Answers.{squeezeRefusal}
 use Rattle.sponge.specs.History.Step.{squeeze}
 use Rattle.sponge.specs.WalkBack.{Accepted}
-use Rattle.sponge.proofs.RefusalLaws.{none-first}
+use Rattle.tip5.proofs.RefusalLaws.{none-first}
 use Rattle.tip5.specs.Judge.{unless}
 use Rattle.draws.proofs.BoundLaws.{Power, accepted-bound}
 use Rattle.draws.proofs.SqueezeLaws.{squeezes-accepted}

@@ -18,7 +18,7 @@ use Rattle.sponge.specs.History.Step.{squeeze}
 use Rattle.sponge.specs.Sponge.{rate, squeezed}
 use Rattle.sponge.specs.WalkBack.{Accepted}
 use Rattle.tip5.specs.Judge.{first}
-use Rattle.tip5.proofs.AnswerLaws.{first-one}
+use Rattle.tip5.proofs.RefusalLaws.{first-one}
 use Rattle.draws.proofs.DrawLaws.{draw-turn, joined-assoc, joined-nothing, nothing-joined}
 use Rattle.draws.proofs.ExtendedLaws.{drop-further, extended-found}
 

@@ -1,21 +1,14 @@
--- What a word draws, as code finds it: the value of a word below P, the value that is skipped, and every other.
+-- What a word draws, as code finds it: nothing for the value that is skipped, an index for every other.
 -- Assumes nothing.
 use mathlib.Core.List.{List, [], _∷_, _++_, append-assoc, append-nil}
 use mathlib.Core.Path.{_≡_, refl, ap, sym, _∙_}
 use Prim.Native.Nat.{ℕ, _+_, _<_}
 use native.Mathlib.Numerals.{add-one}
-use borrow.Author.Tests.{eq-eqb, lt-ltb, ne-eqb}
+use borrow.Author.Tests.{eq-eqb, ne-eqb}
 use lib.ListN.{getD, length, take}
 use lib.Seq.{take-suc}
 use Rattle.draws.specs.Draw.{drawnFrom, fromWords, indexOf, skipped}
-use Rattle.numbers.specs.Modulus.{P}
-use Rattle.tip5.specs.declared.b_field_element.ValueAnswer.{ValueAnswer}
-use Rattle.tip5.specs.Element.{elementOf, value}
 use Rattle.rounds.specs.Field.{valueOf}
-
--- the value that the call on an element answers
-pub value-answered : {a : ValueAnswer} (w : ℕ) → w < P → a ≡ value (elementOf w) → a .value .0 ≡ valueOf w
-value-answered w h e = ap (λ (a : ValueAnswer). a .value .0) e ∙ simp (lt-ltb w P h)
 
 pub drawn-skipped : (bound : ℕ) {v : ℕ} → v ≡ skipped → drawnFrom bound v ≡ []
 unfolding drawnFrom

@@ -2,12 +2,12 @@
 use tip5::b_field_element::BFieldElement;
 use tip5::b_field_element::Value;
 ghost use mathlib.Core.Path.{_≡_};
-ghost use Prim.Native.Nat.{ℕ, _≤_, _<_};
-ghost use lib.ListN.{getD, length};
+ghost use Prim.Native.Nat.{_≤_, _<_};
+ghost use lib.ListN.{length};
 ghost use Rattle.draws.specs.Draw.{drawnFrom, fromWords, indexOf};
 ghost use Rattle.draws.specs.Extended.{Extended};
 ghost use Rattle.numbers.specs.Modulus.{P};
-ghost use Rattle.rounds.specs.Field.{valueOf};
+ghost use Rattle.rounds.specs.Field.{Below, valueOf};
 
 // The value that draws nothing: P - 1.
 const SKIPPED: u64 = 18446744069414584320;
@@ -40,7 +40,7 @@ fn put_index(word: u64, bound: u32, indices: &mut [u32], found: usize) -> usize
 
 // The same of each word, in their order.
 pub(crate) fn put_indices(words: &[u64], bound: u32, indices: &mut [u32], found: usize) -> usize
-    requires { ⌜ (0 < bound) × ((k : ℕ) → getD (now words) k 0 < P) × (found ≤ length (now indices)) ⌝ }
+    requires { ⌜ (0 < bound) × Below (now words) × (found ≤ length (now indices)) ⌝ }
     ensures { λ r. ⌜ Extended (now (indices .entry)) found (fromWords bound (now (words .entry))) r (now (indices .exit)) ⌝ }
 {
     let mut n = found;

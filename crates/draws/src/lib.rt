@@ -12,13 +12,7 @@ use tip5::refusal;
 ghost use mathlib.Core.Path.{_≡_};
 ghost use Prim.Native.Nat.{_<_};
 ghost use lib.ListN.{length, replicate};
-ghost use Rattle.draws.specs.Answers.{
-  drawAnswer,
-  drawRefusal,
-  inFront,
-  sampleIndices,
-  sampledSlice,
-};
+ghost use Rattle.draws.specs.Answers.{drawAnswer, drawRefusal, inFront, sampleIndices, sampledSlice};
 ghost use Rattle.draws.specs.Draw.{draw};
 ghost use Rattle.sponge.specs.History.Step.{squeeze};
 ghost use Rattle.sponge.specs.WalkBack.{Accepted};

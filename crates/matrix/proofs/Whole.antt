@@ -3,16 +3,15 @@
 use mathlib.Core.Path.{_≡_, refl, ap, _∙_}
 use mathlib.Core.List.{List}
 use Prim.Native.Nat.{ℕ, _*_, _%_, _<_, _^_}
-use Rattle.numbers.specs.Circulant.{rowSum}
+use Rattle.numbers.specs.Circulant.{entry, rowSum}
 use Rattle.numbers.specs.Linear.{_⊛_, dot}
 use Rattle.numbers.specs.Lists.{tab}
 use Rattle.numbers.proofs.Linear.{Form, reduced, form-word, dot-multiple}
 use Rattle.matrix.specs.Column.{mdsColumn}
-use Rattle.matrix.specs.Parts.{entry}
 
 -- row r of the circulant
 abbrev pub circulantRow : ℕ → List ℕ
-circulantRow r = tab 16 0 (λ c. entry r c)
+circulantRow r = tab 16 0 (λ c. entry mdsColumn r c)
 
 -- which gives the row sum
 row-sum : (s : List ℕ) (r : ℕ) → dot (circulantRow r) s 0 ≡ rowSum mdsColumn s r

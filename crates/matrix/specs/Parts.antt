@@ -1,14 +1,10 @@
 -- The matrices of the parts that the product is made of. Modulo 2^64, 2^64 - 1 stands for -1.
 use mathlib.Core.List.{List}
-use Prim.Native.Nat.{ℕ, _+_, _-_, _*_, _%_, _^_}
-use lib.ListN.{getD}
+use Prim.Native.Nat.{ℕ, _+_, _-_, _*_, _^_}
+use Rattle.numbers.specs.Circulant.{entry}
 use Rattle.numbers.specs.Lists.{tab}
 use Rattle.numbers.specs.Linear.{unit, _⊕_, _⊛_, rows}
 use Rattle.matrix.specs.Column.{mdsColumn}
-
--- the circulant's entry in row r and column c
-abbrev pub entry : (r c : ℕ) → ℕ
-entry r c = getD mdsColumn ((16 + r - c) % 16) 0
 
 -- each word and n times the word eight places on, 16 words to 8
 abbrev pub foldMatrix : ℕ → List (List ℕ)
@@ -16,7 +12,7 @@ foldMatrix n = rows 8 0 (λ r. unit r ⊕ n ⊛ unit (8 + r))
 
 -- row r of the circulant, its left half and n times its right half added, times 8
 abbrev pub foldedRow : (n r : ℕ) → List ℕ
-foldedRow n r = tab 8 0 (λ c. 8 * (entry r c + n * entry r (8 + c)))
+foldedRow n r = tab 8 0 (λ c. 8 * (entry mdsColumn r c + n * entry mdsColumn r (8 + c)))
 
 -- the sums of words eight places apart
 abbrev pub sumsMatrix : List (List ℕ)

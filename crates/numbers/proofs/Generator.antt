@@ -6,31 +6,7 @@ use mathlib.Core.Bool.{Bool, not, _&&_}
 use mathlib.Core.List.{List}
 use mathlib.Core.Logic.{_≢_, by-cases}
 use Prim.Native.Nat.{ℕ, zero, suc, pred, _+_, _-_, _*_, _/_, _%_, _^_, _≤_, _<_, _∣_, suc-le-suc, zero-le}
-use native.Mathlib.Nat.{
-  add-sub-of-le,
-  div-eq-of-eq-mul-left,
-  div-mul-cancel,
-  dvd-mul-left,
-  le-of-dvd,
-  le-of-lt,
-  lt-of-le-of-lt,
-  mod-add-div,
-  mod-eq-of-lt,
-  mod-lt,
-  mul-assoc,
-  mul-comm,
-  mul-div-cancel',
-  mul-one,
-  mul-zero,
-  ne-of-gt,
-  ne-of-lt,
-  one-mul,
-  pos-of-ne-zero,
-  pow-suc,
-  sub-add-cancel,
-  zero-mod,
-  zero-mul,
-}
+use native.Mathlib.Nat.{add-sub-of-le, div-eq-of-eq-mul-left, div-mul-cancel, dvd-mul-left, le-of-dvd, le-of-lt, lt-of-le-of-lt, mod-add-div, mod-eq-of-lt, mod-lt, mul-assoc, mul-comm, mul-div-cancel', mul-one, mul-zero, ne-of-gt, ne-of-lt, one-mul, pos-of-ne-zero, pow-suc, sub-add-cancel, zero-mod, zero-mul}
 use native.Mathlib.Decide.{decLt}
 use native.Mathlib.Numerals.{add-one}
 use native.Mathlib.Omega.{arith}
@@ -38,23 +14,11 @@ use lib.Dec.{T, T-not, eqb, eqb-refl}
 use lib.Ieee.Fits.{and-l, and-r}
 use lib.Pow.{pow-add}
 use Rattle.numbers.specs.Congruence.{Cong}
-use Rattle.numbers.specs.Power.{powMod}
-use Rattle.numbers.specs.Table.{every}
-use Rattle.numbers.proofs.Congruence.{
-  cong-eq,
-  cong-below,
-  cong-mul,
-  cong-one-pow,
-  cong-pow,
-  cong-refl,
-  cong-remainder,
-  cong-sym,
-  cong-trans,
-  pow-pow,
-}
+use Rattle.numbers.proofs.Power.{powMod, powMod-pow}
+use Rattle.numbers.proofs.Table.{every}
+use Rattle.numbers.proofs.Congruence.{cong-eq, cong-below, cong-mul, cong-one-pow, cong-pow, cong-refl, cong-remainder, cong-sym, cong-trans, pow-pow}
 use Rattle.numbers.proofs.Divisors.{Closed, Common, Prime, common, prime-factor, product}
 use Rattle.numbers.proofs.Pigeonhole.{reaches}
-use Rattle.numbers.proofs.Power.{powMod-pow}
 use Rattle.numbers.proofs.Trial.{trial, trial-prime}
 
 -- q is prime, and the power of g by n / q is not 1

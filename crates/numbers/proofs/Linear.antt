@@ -9,17 +9,7 @@ use native.Mathlib.Omega.{arith}
 use lib.ListN.{getD, List·getD-map}
 use Rattle.numbers.specs.Congruence.{Cong}
 use Rattle.numbers.specs.Linear.{unit, _⊕_, _⊛_, dot, times}
-use Rattle.numbers.proofs.Congruence.{
-  cong-add,
-  cong-add-cancel,
-  cong-eq,
-  cong-mod,
-  cong-mul,
-  cong-multiple,
-  cong-refl,
-  cong-sym,
-  cong-trans,
-}
+use Rattle.numbers.proofs.Congruence.{cong-add, cong-add-cancel, cong-eq, cong-mod, cong-mul, cong-multiple, cong-refl, cong-sym, cong-trans}
 
 -- Rows
 

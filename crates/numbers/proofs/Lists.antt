@@ -2,19 +2,9 @@
 -- Assumes nothing.
 use mathlib.Core.Path.{_≡_, refl, sym, ap, ap₂, _∙_}
 use mathlib.Core.List.{List, _∷_}
-use Prim.Native.Nat.{ℕ, zero, suc, _+_, _*_, _≤_, _<_, zero-le}
-use native.Mathlib.Nat.{
-  add-suc,
-  add-zero,
-  le-of-suc-le-suc,
-  le-refl,
-  mul-add,
-  mul-comm,
-  mul-zero,
-  not-suc-le-zero,
-  suc-add,
-  zero-add,
-}
+use Prim.Native.Nat.{ℕ, zero, suc, _+_, _-_, _*_, _≤_, _<_, zero-le}
+use native.Mathlib.Nat.{add-suc, add-zero, le-of-suc-le-suc, le-refl, mul-add, mul-comm, mul-zero, not-suc-le-zero, suc-add, zero-add}
+use native.Mathlib.Numerals.{add-one}
 use native.Mathlib.Omega.{arith}
 use lib.ListN.{length, getD}
 use lib.Seq.{ext-getD}
@@ -97,3 +87,11 @@ total-exchange (suc n) m i j f =
 pub total-le : (n i : ℕ) {f g : ℕ → ℕ} → ((c : ℕ) → f c ≤ g c) → total n i f ≤ total n i g
 total-le zero i h = zero-le
 total-le (suc n) i h = omega (arith, h i, total-le n (suc i) h)
+
+-- what is left of a sum loses its first summand
+pub total-next : (n i : ℕ) (f : ℕ → ℕ) → i < n → total (n - i) i f ≡ f i + total (n - (i + 1)) (i + 1) f
+total-next n i f h =
+    ap (λ (k : ℕ). total k i f) (left h) ∙ ap (λ (j : ℕ). f i + total (n - (i + 1)) j f) (sym (add-one i))
+  where
+    left : i < n → n - i ≡ suc (n - (i + 1))
+    left h = omega arith

@@ -1,4 +1,5 @@
--- Powers by squaring are powers.
+-- Powers modulo a number, by squaring: what a computed certificate uses, since a number such as 7 ^ (P - 1) is too long to
+-- write out; and that they are powers.
 -- Assumes nothing.
 use mathlib.Core.Path.{_≡_, sym, ap, _∙_}
 use Prim.Native.Nat.{ℕ, zero, suc, _+_, _*_, _/_, _%_, _^_, _≤_}
@@ -7,8 +8,18 @@ use native.Mathlib.Omega.{arith}
 use lib.Arith.{le-zero}
 use lib.Pow.{pow-add}
 use Rattle.numbers.specs.Congruence.{Cong}
-use Rattle.numbers.specs.Power.{powMod, powWithin}
 use Rattle.numbers.proofs.Congruence.{cong-eq, cong-mod, cong-mul, cong-pow, cong-refl, cong-trans, mul-pow}
+
+-- x ^ e modulo m: the square of x to half of e, times x if e is odd. The depth bounds the number of halvings.
+unfoldable pub powWithin : (depth m x e : ℕ) → ℕ
+powWithin zero m x e = 1 % m
+powWithin (suc d) m x zero = 1 % m
+powWithin (suc d) m x (suc e) = powWithin d m (x * x % m) (suc e / 2) * x ^ (suc e % 2) % m
+
+-- x ^ e modulo m: e can't be halved more than e times
+unfoldable pub powMod : (m x e : ℕ) → ℕ
+unfolding powWithin
+powMod m x e = powWithin e m x e
 
 -- a power from the power of the square
 pub pow-square : (x q r : ℕ) → (x * x) ^ q * x ^ r ≡ x ^ (q * 2 + r)

@@ -7,7 +7,7 @@ use native.Mathlib.Nat.{mul-comm}
 use lib.Dec.{lit<}
 use lib.ListN.{replicate}
 use Rattle.numbers.specs.Modulus.{P, rootExponent}
-use Rattle.numbers.specs.Power.{powMod}
+use Rattle.numbers.proofs.Power.{powMod}
 use Rattle.numbers.proofs.Congruence.{mod-pow-pow}
 use Rattle.numbers.proofs.Generator.{Certificate, power-returns}
 use Rattle.numbers.proofs.Trial.{trial}

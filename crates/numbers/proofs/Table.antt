@@ -1,16 +1,25 @@
--- One computed test gives the rule at every entry of a table, and one list of facts gives the fact at every number below a bound.
+-- Tests that are computed over every entry of a table, or over every number below a bound, and what they give: one computed
+-- test the rule at every number, and one list of facts the fact at every number.
 -- Assumes nothing.
 use mathlib.Core.Path.{_≡_, subst}
-use mathlib.Core.Bool.{Bool}
+use mathlib.Core.Bool.{Bool, true, _&&_}
 use mathlib.Core.List.{List, [], _∷_}
 use mathlib.Core.Logic.{⊎-elim}
 use Prim.Native.Nat.{ℕ, zero, suc, _+_, _≤_, _<_, zero-le}
-use native.Mathlib.Nat.{add-zero, add-suc, eq-or-lt-of-le, le-of-suc-le-suc, not-suc-le-zero, suc-add, zero-add}
+use native.Mathlib.Nat.{eq-or-lt-of-le}
 use native.Mathlib.Omega.{arith}
 use lib.Dec.{T}
 use lib.Ieee.Fits.{and-l, and-r}
-use lib.ListN.{length, getD}
-use Rattle.numbers.specs.Table.{every, each}
+
+-- the test f passes at each entry of the list, with its place, the first place being i
+abbrev pub every : (f : ℕ → ℕ → Bool) (i : ℕ) → List ℕ → Bool
+every f i [] = true
+every f i (x ∷ xs) = f i x && every f (suc i) xs
+
+-- the test g passes at i, i + 1, .., n numbers
+abbrev pub each : (g : ℕ → Bool) (n i : ℕ) → Bool
+each g zero i = true
+each g (suc n) i = g i && each g n (suc i)
 
 -- the facts F i, F (i + 1), .., n of them, as the tuple (a, (b, (.., tt)))
 abbrev pub Each : (F : ℕ → Type 0) (n i : ℕ) → Type 0
@@ -35,14 +44,3 @@ each-facts g (suc n) i t = (and-l (g i) (each g n (suc i)) t, each-facts g n (su
 -- a test that passes at 0, 1, .., n - 1 passes at each number below n
 pub each-at : (g : ℕ → Bool) (n : ℕ) → T (each g n 0) → (k : ℕ) → k < n → T (g k)
 each-at g n t = below-fact (λ k. T (g k)) n (each-facts g n 0 t)
-
--- the same over a list, with the places counted from i
-every-from : (f : ℕ → ℕ → Bool) (i : ℕ) (xs : List ℕ) → T (every f i xs) → (k : ℕ) → k < length xs → T (f (i + k) (getD xs k 0))
-every-from f i [] t k h = absurd (not-suc-le-zero h)
-every-from f i (x ∷ xs) t zero h = rw add-zero (and-l (f i x) (every f (suc i) xs) t)
-every-from f i (x ∷ xs) t (suc k) h =
-    rw (add-suc, ← suc-add) (every-from f (suc i) xs (and-r (f i x) (every f (suc i) xs) t) k (le-of-suc-le-suc h))
-
--- a test that passes over a table passes at each entry and its place
-pub every-at : (f : ℕ → ℕ → Bool) (xs : List ℕ) → T (every f 0 xs) → (k : ℕ) → k < length xs → T (f k (getD xs k 0))
-every-at f xs t k h = rw zero-add at (every-from f 0 xs t k h)

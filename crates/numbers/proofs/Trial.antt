@@ -4,24 +4,13 @@ use mathlib.Core.Path.{_≡_, refl, sym, ap, _∙_}
 use mathlib.Core.Bool.{Bool, true, false, not, _&&_, _||_}
 use mathlib.Core.Logic.{inl, inr, by-cases}
 use Prim.Native.Nat.{ℕ, zero, suc, _*_, _/_, _%_, _≤_, _<_, suc-le-suc, zero-le}
-use native.Mathlib.Nat.{
-  le-of-lt,
-  lt-of-not-le,
-  mul-comm,
-  mul-div-cancel',
-  mul-le-mul,
-  mul-le-mul-left,
-  mul-mod-right,
-  mul-one,
-  zero-mul,
-}
+use native.Mathlib.Nat.{le-of-lt, lt-of-not-le, mul-comm, mul-div-cancel', mul-le-mul, mul-le-mul-left, mul-mod-right, mul-one, zero-mul}
 use native.Mathlib.Decide.{decLe}
 use native.Mathlib.Omega.{arith}
 use lib.Dec.{T, T-not, eqb, eqb-refl, ltb, ltb→lt}
 use lib.Ieee.Fits.{and-l, and-r}
-use Rattle.numbers.specs.Table.{each}
+use Rattle.numbers.proofs.Table.{each, each-fact, each-facts}
 use Rattle.numbers.proofs.Divisors.{Prime}
-use Rattle.numbers.proofs.Table.{each-fact, each-facts}
 
 -- c is too large to be the smaller of two factors of q, or it does not divide q
 abbrev trialAt : (q c : ℕ) → Bool

@@ -1,9 +1,7 @@
--- The definitions of numbers that every layer above cites.
+-- Definitions on numbers and lists that contracts above cite.
 pub mod Circulant
 pub mod Congruence
 pub mod Fill
 pub mod Linear
 pub mod Lists
 pub mod Modulus
-pub mod Power
-pub mod Table

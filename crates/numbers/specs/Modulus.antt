@@ -1,4 +1,4 @@
--- The modulus of the field, and the numbers that undo its two operations.
+-- The modulus of the field, what undoes a product by 2^64, and what undoes a seventh power.
 use Prim.Native.Nat.{ℕ}
 
 -- 2^64 - 2^32 + 1

@@ -12,14 +12,13 @@ use borrow.Author.Tests.{eq-eqb, ne-eqb}
 use lib.Dec.{T, eqb, eqb→eq}
 use lib.ListN.{length, getD}
 use Rattle.matrix.specs.Column.{mdsColumn}
-use Rattle.numbers.specs.Circulant.{rowSum}
+use Rattle.numbers.specs.Circulant.{entry, rowSum}
 use Rattle.numbers.specs.Congruence.{Cong}
 use Rattle.numbers.specs.Lists.{total}
 use Rattle.numbers.specs.Modulus.{P}
-use Rattle.numbers.specs.Table.{each}
+use Rattle.numbers.proofs.Table.{each, each-at}
 use Rattle.numbers.proofs.Congruence.{cong-eq, cong-mod, cong-mul, cong-refl, cong-remainder, cong-sym, cong-total, cong-trans}
 use Rattle.numbers.proofs.Lists.{getD-tab₀, tab-unique, total-exchange, total-mul, total-mul-right, total-same}
-use Rattle.numbers.proofs.Table.{each-at}
 use Rattle.rounds.specs.Constants.{invMdsColumn}
 use Rattle.rounds.specs.Round.{circulant}
 use Rattle.rounds.specs.Field.{Below}
@@ -68,23 +67,23 @@ total-total n a b x =
 -- Two circulants
 
 -- entry (r, d) of their product
-unfoldable pub entry : (A B : List ℕ) (r d : ℕ) → ℕ
-entry A B r d = total 16 0 (λ c. getD A ((16 + r - c) % 16) 0 * getD B ((16 + c - d) % 16) 0)
+unfoldable pub product : (A B : List ℕ) (r d : ℕ) → ℕ
+product A B r d = total 16 0 (λ c. entry A r c * entry B c d)
 
 -- a row of the one after the other
-rowSum-circulant : (A B s : List ℕ) (r : ℕ) → Cong P (rowSum A (circulant B s) r) (total 16 0 (λ d. entry A B r d * getD s d 0))
-unfolding rowSum circulant entry
+rowSum-circulant : (A B s : List ℕ) (r : ℕ) → Cong P (rowSum A (circulant B s) r) (total 16 0 (λ d. product A B r d * getD s d 0))
+unfolding rowSum circulant product
 rowSum-circulant A B s r =
     cong-trans
     (cong-total-within 16 0 λ c low high.
     cong-trans
-    (cong-eq (ap (λ (n : ℕ). getD A ((16 + r - c) % 16) 0 * n) (getD-tab₀ 16 (λ k. rowSum B s k % P) c (rw zero-add at high))))
+    (cong-eq (ap (λ (n : ℕ). entry A r c * n) (getD-tab₀ 16 (λ k. rowSum B s k % P) c (rw zero-add at high))))
     (cong-mul cong-refl cong-mod))
-    (cong-eq (total-total 16 (λ c. getD A ((16 + r - c) % 16) 0) (λ c d. getD B ((16 + c - d) % 16) 0) (λ d. getD s d 0)))
+    (cong-eq (total-total 16 (entry A r) (entry B) (λ d. getD s d 0)))
 
 -- it is that of the identity modulo P
 abbrev right : (A B : List ℕ) (r d : ℕ) → Bool
-right A B r d = eqb (entry A B r d % P) (unit r d % P)
+right A B r d = eqb (product A B r d % P) (unit r d % P)
 
 -- at all places
 unfoldable pub identity : (A B : List ℕ) → Bool
@@ -97,18 +96,18 @@ circulant-undone A B t s e h =
     sym
     (cong-remainder
     (cong-trans (rowSum-circulant A B s r)
-    (row-unit 16 r (entry A B r) (λ d. getD s d 0) r< λ d d<.
+    (row-unit 16 r (product A B r) (λ d. getD s d 0) r< λ d d<.
     record { same = eqb→eq _ _ (each-at (λ c. right A B r c) 16 (each-at (λ q. each (λ c. right A B q c) 16 0) 16 t r r<) d d<) }))
     (h r))
 
 -- The columns of Tip5
 
 pub invMds-mds-identity : T (identity invMdsColumn mdsColumn)
-unfolding identity entry invMdsColumn
+unfolding identity product invMdsColumn
 invMds-mds-identity = tt
 
 pub mds-invMds-identity : T (identity mdsColumn invMdsColumn)
-unfolding identity entry invMdsColumn
+unfolding identity product invMdsColumn
 mds-invMds-identity = tt
 
 pub invMds-mds : (s : List ℕ) → length s ≡ 16 → Below s → circulant invMdsColumn (circulant mdsColumn s) ≡ s

@@ -2,11 +2,10 @@
 -- Assumes nothing.
 use mathlib.Core.Path.{_≡_, sym, ap, _∙_}
 use Prim.Native.Nat.{ℕ, _+_, _-_, _*_, _%_, _^_, _<_}
-use native.Mathlib.Nat.{mul-comm}
 use native.Mathlib.Omega.{arith}
 use Rattle.numbers.specs.Modulus.{P, rootExponent}
 use Rattle.numbers.proofs.Congruence.{cong-add, cong-eq, cong-mod, cong-multiple, cong-refl, cong-remainder, cong-trans, mod-pow-pow}
-use Rattle.numbers.proofs.Roots.{power-returns-P, seven-roots}
+use Rattle.numbers.proofs.Roots.{root-then-seventh, seventh-then-root}
 use Rattle.rounds.specs.Field.{add, power, rawOf, sub, valueOf}
 use Rattle.rounds.proofs.FieldLaws.{rawOf-mod, rawOf-valueOf, valueOf-below, valueOf-rawOf-mod}
 
@@ -39,14 +38,17 @@ power-power a j k =
     ∙ ap rawOf (mod-pow-pow (valueOf a) j k P)
     ∙ rawOf-mod (valueOf a ^ (j * k))
 
--- the power by 4 * (P - 1) + 1 leads back
-power-returns : {a : ℕ} → a < P → power a (4 * (P - 1) + 1) ≡ a
+-- two powers that undo each other on values do so on raw words
+power-undone : (j k : ℕ) → ((x : ℕ) → x < P → (x ^ j % P) ^ k % P ≡ x) → {a : ℕ} → a < P → power (power a j) k ≡ a
 unfolding power
-power-returns {a} h =
-    sym (rawOf-mod (valueOf a ^ (4 * (P - 1) + 1))) ∙ ap rawOf (power-returns-P (valueOf a) (valueOf-below a)) ∙ rawOf-valueOf h
+power-undone j k back {a} h =
+    ap (λ (v : ℕ). rawOf (v ^ k)) (valueOf-rawOf-mod (valueOf a ^ j))
+    ∙ sym (rawOf-mod ((valueOf a ^ j % P) ^ k))
+    ∙ ap rawOf (back (valueOf a) (valueOf-below a))
+    ∙ rawOf-valueOf h
 
 pub root-seventh : {a : ℕ} → a < P → power (power a 7) rootExponent ≡ a
-root-seventh {a} h = power-power a 7 rootExponent ∙ ap (power a) seven-roots ∙ power-returns h
+root-seventh h = power-undone 7 rootExponent seventh-then-root h
 
 pub seventh-root : {a : ℕ} → a < P → power (power a rootExponent) 7 ≡ a
-seventh-root {a} h = power-power a rootExponent 7 ∙ ap (power a) (mul-comm rootExponent 7 ∙ seven-roots) ∙ power-returns h
+seventh-root h = power-undone rootExponent 7 root-then-seventh h

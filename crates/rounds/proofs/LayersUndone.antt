@@ -11,7 +11,7 @@ use Rattle.numbers.specs.Lists.{tab}
 use Rattle.numbers.specs.Modulus.{P, rootExponent}
 use Rattle.numbers.proofs.Lists.{getD-tab₀, tab-unique}
 use Rattle.rounds.specs.Field.{add, power, sub, Below}
-use Rattle.rounds.specs.Inverse.{invLookup, invSbox, invSboxLayer, subConstants}
+use Rattle.rounds.specs.Inverse.{invLookup, invSbox, invSboxLayer, subtractConstants}
 use Rattle.rounds.specs.Round.{addConstants, constant, lookup, sbox, sboxLayer}
 use Rattle.rounds.proofs.FieldUndone.{add-sub, root-seventh, seventh-root, sub-add}
 use Rattle.rounds.proofs.LookupLaws.{invLookup-lookup, lookup-invLookup}
@@ -51,12 +51,12 @@ module _ (s : List ℕ) (e : length s ≡ 16) (h : Below s) where
   unfolding invSboxLayer sboxLayer
   sboxLayer-invSboxLayer = layer-undone sbox invSbox s e λ r. sbox-invSbox r (h r)
 
-  pub subConstants-addConstants : (i : ℕ) → subConstants i (addConstants i s) ≡ s
-  unfolding subConstants addConstants
-  subConstants-addConstants i =
+  pub subtractConstants-addConstants : (i : ℕ) → subtractConstants i (addConstants i s) ≡ s
+  unfolding subtractConstants addConstants
+  subtractConstants-addConstants i =
       layer-undone (λ r a. sub a (constant i r)) (λ r a. add a (constant i r)) s e λ r. sub-add (h r) (constant-below i r)
 
-  pub addConstants-subConstants : (i : ℕ) → addConstants i (subConstants i s) ≡ s
-  unfolding subConstants addConstants
-  addConstants-subConstants i =
+  pub addConstants-subtractConstants : (i : ℕ) → addConstants i (subtractConstants i s) ≡ s
+  unfolding subtractConstants addConstants
+  addConstants-subtractConstants i =
       layer-undone (λ r a. add a (constant i r)) (λ r a. sub a (constant i r)) s e λ r. add-sub (h r) (constant-below i r)

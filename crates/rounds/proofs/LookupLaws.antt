@@ -5,8 +5,7 @@ use mathlib.Core.Path.{_≡_, refl}
 use Prim.Native.Nat.{ℕ, _^_, _<_}
 use lib.Dec.{T, eqb, eqb→eq, ltb, ltb→lt}
 use Rattle.numbers.specs.Modulus.{P}
-use Rattle.numbers.specs.Table.{each}
-use Rattle.numbers.proofs.Table.{each-at}
+use Rattle.numbers.proofs.Table.{each, each-at}
 use Rattle.rounds.specs.Inverse.{invLookup, invLookupByte}
 use Rattle.rounds.specs.Round.{lookup, lookupByte}
 use Rattle.rounds.proofs.BytewiseBelow.{Ends, bytewise-below, ends-bytes}

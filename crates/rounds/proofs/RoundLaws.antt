@@ -12,7 +12,7 @@ use Rattle.numbers.specs.Circulant.{rowSum}
 use Rattle.numbers.specs.Lists.{tab}
 use Rattle.numbers.specs.Modulus.{P}
 use Rattle.numbers.proofs.Lists.{getD-tab-all}
-use Rattle.rounds.specs.Inverse.{invPermuted, invRound, invSbox, invSboxLayer, subConstants, unrounds}
+use Rattle.rounds.specs.Inverse.{invPermuted, invRound, invSbox, invSboxLayer, subtractConstants, invRounds}
 use Rattle.rounds.specs.Round.{addConstants, circulant, constant, permuted, round, rounds, sbox, sboxLayer}
 use Rattle.rounds.proofs.FieldLaws.{add-below, power-below, rawOf-below, sub-below}
 use Rattle.rounds.specs.Field.{Below}
@@ -61,13 +61,13 @@ pub addConstants-below : (i : ℕ) (s : List ℕ) → Below (addConstants i s)
 unfolding addConstants
 addConstants-below i s = tab-below 16 0 λ r. add-below (getD s r 0) (constant i r)
 
-pub subConstants-length : (i : ℕ) (s : List ℕ) → length (subConstants i s) ≡ 16
-unfolding subConstants
-subConstants-length i s = refl
+pub subtractConstants-length : (i : ℕ) (s : List ℕ) → length (subtractConstants i s) ≡ 16
+unfolding subtractConstants
+subtractConstants-length i s = refl
 
-pub subConstants-below : (i : ℕ) (s : List ℕ) → Below (subConstants i s)
-unfolding subConstants
-subConstants-below i s = tab-below 16 0 λ r. sub-below (getD s r 0) (constant i r)
+pub subtractConstants-below : (i : ℕ) (s : List ℕ) → Below (subtractConstants i s)
+unfolding subtractConstants
+subtractConstants-below i s = tab-below 16 0 λ r. sub-below (getD s r 0) (constant i r)
 
 pub invSbox-below : (i : ℕ) {w : ℕ} → w < P → invSbox i w < P
 unfolding invSbox
@@ -111,15 +111,15 @@ unfolding rounds
 rounds-below zero s h = h
 rounds-below (suc n) s h = round-below n (rounds n s)
 
-pub unrounds-length : (n : ℕ) (s : List ℕ) → length s ≡ 16 → length (unrounds n s) ≡ 16
-unfolding unrounds
-unrounds-length zero s e = e
-unrounds-length (suc n) s e = unrounds-length n (invRound n s) (invRound-length n s)
+pub invRounds-length : (n : ℕ) (s : List ℕ) → length s ≡ 16 → length (invRounds n s) ≡ 16
+unfolding invRounds
+invRounds-length zero s e = e
+invRounds-length (suc n) s e = invRounds-length n (invRound n s) (invRound-length n s)
 
-pub unrounds-below : (n : ℕ) (s : List ℕ) → Below s → Below (unrounds n s)
-unfolding unrounds
-unrounds-below zero s h = h
-unrounds-below (suc n) s h = unrounds-below n (invRound n s) (invRound-below n s)
+pub invRounds-below : (n : ℕ) (s : List ℕ) → Below s → Below (invRounds n s)
+unfolding invRounds
+invRounds-below zero s h = h
+invRounds-below (suc n) s h = invRounds-below n (invRound n s) (invRound-below n s)
 
 -- The permutation, whatever it is given
 
@@ -132,9 +132,9 @@ unfolding permuted rounds
 permuted-below s = round-below 4 (rounds 4 s)
 
 pub invPermuted-length : (s : List ℕ) → length (invPermuted s) ≡ 16
-unfolding invPermuted unrounds
-invPermuted-length s = unrounds-length 4 (invRound 4 s) (invRound-length 4 s)
+unfolding invPermuted invRounds
+invPermuted-length s = invRounds-length 4 (invRound 4 s) (invRound-length 4 s)
 
 pub invPermuted-below : (s : List ℕ) → Below (invPermuted s)
-unfolding invPermuted unrounds
-invPermuted-below s = unrounds-below 4 (invRound 4 s) (invRound-below 4 s)
+unfolding invPermuted invRounds
+invPermuted-below s = invRounds-below 4 (invRound 4 s) (invRound-below 4 s)

@@ -8,12 +8,12 @@ use Prim.Native.Nat.{ℕ, zero, suc}
 use lib.ListN.{length}
 use Rattle.matrix.specs.Column.{mdsColumn}
 use Rattle.rounds.specs.Constants.{invMdsColumn}
-use Rattle.rounds.specs.Inverse.{invPermuted, invRound, invSboxLayer, subConstants, unrounds}
+use Rattle.rounds.specs.Inverse.{invPermuted, invRound, invSboxLayer, subtractConstants, invRounds}
 use Rattle.rounds.specs.Round.{addConstants, circulant, permuted, round, rounds, sboxLayer}
 use Rattle.rounds.proofs.CirculantLaws.{invMds-mds, mds-invMds}
 use Rattle.rounds.specs.Field.{Below}
-use Rattle.rounds.proofs.LayersUndone.{addConstants-subConstants, invSboxLayer-sboxLayer, sboxLayer-invSboxLayer, subConstants-addConstants}
-use Rattle.rounds.proofs.RoundLaws.{circulant-below, circulant-length, invRound-below, invRound-length, rounds-below, rounds-length, sboxLayer-below, sboxLayer-length, subConstants-below, subConstants-length}
+use Rattle.rounds.proofs.LayersUndone.{addConstants-subtractConstants, invSboxLayer-sboxLayer, sboxLayer-invSboxLayer, subtractConstants-addConstants}
+use Rattle.rounds.proofs.RoundLaws.{circulant-below, circulant-length, invRound-below, invRound-length, rounds-below, rounds-length, sboxLayer-below, sboxLayer-length, subtractConstants-below, subtractConstants-length}
 
 -- Rounds
 
@@ -21,7 +21,7 @@ pub invRound-round : (i : ℕ) (s : List ℕ) → length s ≡ 16 → Below s �
 unfolding invRound round
 invRound-round i s e h =
     ap (λ t. invSboxLayer (circulant invMdsColumn t))
-    (subConstants-addConstants (circulant mdsColumn (sboxLayer s)) (circulant-length _ _) (circulant-below _ _) i)
+    (subtractConstants-addConstants (circulant mdsColumn (sboxLayer s)) (circulant-length _ _) (circulant-below _ _) i)
     ∙ ap invSboxLayer (invMds-mds (sboxLayer s) (sboxLayer-length s) (sboxLayer-below s h))
     ∙ invSboxLayer-sboxLayer s e h
 
@@ -29,28 +29,28 @@ pub round-invRound : (i : ℕ) (s : List ℕ) → length s ≡ 16 → Below s �
 unfolding invRound round
 round-invRound i s e h =
     ap (λ t. addConstants i (circulant mdsColumn t))
-    (sboxLayer-invSboxLayer (circulant invMdsColumn (subConstants i s)) (circulant-length _ _) (circulant-below _ _))
-    ∙ ap (addConstants i) (mds-invMds (subConstants i s) (subConstants-length i s) (subConstants-below i s))
-    ∙ addConstants-subConstants s e h i
+    (sboxLayer-invSboxLayer (circulant invMdsColumn (subtractConstants i s)) (circulant-length _ _) (circulant-below _ _))
+    ∙ ap (addConstants i) (mds-invMds (subtractConstants i s) (subtractConstants-length i s) (subtractConstants-below i s))
+    ∙ addConstants-subtractConstants s e h i
 
-pub unrounds-rounds : (n : ℕ) (s : List ℕ) → length s ≡ 16 → Below s → unrounds n (rounds n s) ≡ s
-unfolding rounds unrounds
-unrounds-rounds zero s e h = refl
-unrounds-rounds (suc n) s e h =
-    ap (unrounds n) (invRound-round n (rounds n s) (rounds-length n s e) (rounds-below n s h)) ∙ unrounds-rounds n s e h
+pub invRounds-rounds : (n : ℕ) (s : List ℕ) → length s ≡ 16 → Below s → invRounds n (rounds n s) ≡ s
+unfolding rounds invRounds
+invRounds-rounds zero s e h = refl
+invRounds-rounds (suc n) s e h =
+    ap (invRounds n) (invRound-round n (rounds n s) (rounds-length n s e) (rounds-below n s h)) ∙ invRounds-rounds n s e h
 
-pub rounds-unrounds : (n : ℕ) (s : List ℕ) → length s ≡ 16 → Below s → rounds n (unrounds n s) ≡ s
-unfolding rounds unrounds
-rounds-unrounds zero s e h = refl
-rounds-unrounds (suc n) s e h =
-    ap (round n) (rounds-unrounds n (invRound n s) (invRound-length n s) (invRound-below n s)) ∙ round-invRound n s e h
+pub rounds-invRounds : (n : ℕ) (s : List ℕ) → length s ≡ 16 → Below s → rounds n (invRounds n s) ≡ s
+unfolding rounds invRounds
+rounds-invRounds zero s e h = refl
+rounds-invRounds (suc n) s e h =
+    ap (round n) (rounds-invRounds n (invRound n s) (invRound-length n s) (invRound-below n s)) ∙ round-invRound n s e h
 
 -- The permutation
 
 pub invPermuted-permuted : (s : List ℕ) → length s ≡ 16 → Below s → invPermuted (permuted s) ≡ s
 unfolding invPermuted permuted
-invPermuted-permuted = unrounds-rounds 5
+invPermuted-permuted = invRounds-rounds 5
 
 pub permuted-invPermuted : (s : List ℕ) → length s ≡ 16 → Below s → permuted (invPermuted s) ≡ s
 unfolding invPermuted permuted
-permuted-invPermuted = rounds-unrounds 5
+permuted-invPermuted = rounds-invRounds 5

@@ -25,18 +25,18 @@ invSbox i w = cond (ltb i 4) (invLookup w) (power w rootExponent)
 unfoldable pub invSboxLayer : List ℕ → List ℕ
 invSboxLayer s = tab 16 0 (λ i. invSbox i (getD s i 0))
 
-unfoldable pub subConstants : (i : ℕ) → List ℕ → List ℕ
-subConstants i s = tab 16 0 (λ r. sub (getD s r 0) (constant i r))
+unfoldable pub subtractConstants : (i : ℕ) → List ℕ → List ℕ
+subtractConstants i s = tab 16 0 (λ r. sub (getD s r 0) (constant i r))
 
 -- the layers of round i undone, the last first
 unfoldable pub invRound : (i : ℕ) → List ℕ → List ℕ
-invRound i s = invSboxLayer (circulant invMdsColumn (subConstants i s))
+invRound i s = invSboxLayer (circulant invMdsColumn (subtractConstants i s))
 
 -- the first n rounds undone, the last first
-unfoldable pub unrounds : (n : ℕ) → List ℕ → List ℕ
-unrounds zero s = s
-unrounds (suc n) s = unrounds n (invRound n s)
+unfoldable pub invRounds : (n : ℕ) → List ℕ → List ℕ
+invRounds zero s = s
+invRounds (suc n) s = invRounds n (invRound n s)
 
 -- rounds 4 down to 0
 unfoldable pub invPermuted : List ℕ → List ℕ
-invPermuted s = unrounds 5 s
+invPermuted s = invRounds 5 s

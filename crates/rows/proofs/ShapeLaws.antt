@@ -12,7 +12,7 @@ use Rattle.numbers.proofs.Tests.{passed}
 use Rattle.rows.specs.declared.row.Shape.{Shape}
 use Rattle.rows.specs.Rows.{digestCount, rowsRefusal, sizeRefusal, widthRefusal}
 use Rattle.rows.specs.Table.{Table}
-use Rattle.sponge.proofs.RefusalLaws.{accepted-length, none-first}
+use Rattle.tip5.proofs.RefusalLaws.{accepted-length, none-first}
 use Rattle.tip5.specs.Judge.{lengthRefusal, wordRefusal}
 use Rattle.tip5.proofs.JudgeLaws.{accepted-below}
 

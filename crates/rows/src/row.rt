@@ -5,10 +5,10 @@ use sponge::Tip5;
 use sponge::by_value::absorb;
 use tip5::b_field_element::BFieldElement;
 ghost use mathlib.Core.Path.{_≡_};
-ghost use Prim.Native.Nat.{ℕ, _+_, _*_, _≤_, _<_};
+ghost use Prim.Native.Nat.{_+_, _*_, _≤_, _<_};
 ghost use lib.ListN.{drop, getD, length, replicate};
 ghost use lib.Seq.{paste};
-ghost use Rattle.numbers.specs.Modulus.{P};
+ghost use Rattle.rounds.specs.Field.{Below};
 ghost use Rattle.rows.specs.Table.{Table, entryIn, rowIn};
 ghost use Rattle.sponge.specs.declared.Domain.the-variants.{VariableLength};
 ghost use Rattle.sponge.specs.History.{paddedSteps, run};
@@ -68,7 +68,7 @@ fn last_ten(words: &[u64], shape: Shape, row: usize, at: usize) -> [u64; 10]
 
 // An absorb that is not refused.
 fn absorbed(sponge: Tip5, ten: [u64; 10]) -> Tip5
-    requires { ⌜ ((k : ℕ) → getD (sponge .state) k 0 < P) × ((k : ℕ) → getD ten k 0 < P) ⌝ }
+    requires { ⌜ Below (sponge .state) × Below ten ⌝ }
     ensures { λ r. ⌜ r ≡ Sponge.absorbed ten sponge ⌝ }
 {
     let answer = absorb(sponge, &ten);

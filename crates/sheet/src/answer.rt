@@ -21,7 +21,7 @@ ghost use Rattle.sheet.specs.Drawn.{Drawn};
 ghost use Rattle.sheet.specs.Line.{digestLine, drawLine, refusedLine};
 ghost use Rattle.sheet.specs.Put.{Front};
 ghost use Rattle.sponge.specs.Digest.{digestOf};
-ghost use Rattle.rounds.specs.Field.{valueOf};
+ghost use Rattle.rounds.specs.Field.{Below, valueOf};
 ghost use Rattle.tip5.specs.Judge.{unless, wordRefusal};
 
 // The raw words of the first n elements, at the front of a buffer.
@@ -38,7 +38,7 @@ fn put_words(sheet: &[u8], n: usize, words: &mut [u64])
 
 // The values of five raw words.
 fn values(digest: [u64; 5]) -> [u64; 5]
-    requires { ⌜ ((k : ℕ) → getD digest k 0 < P) ⌝ }
+    requires { ⌜ Below digest ⌝ }
     ensures { λ r. ⌜ r ≡ map valueOf digest ⌝ }
 {
     let mut out = digest;

@@ -10,7 +10,7 @@ use Rattle.sponge.specs.Answers.{absorbRefusal, hash10Refusal, hashPairR
 use Rattle.tip5.specs.Judge.{lengthRefusal, wordRefusal}
 use Rattle.rounds.specs.Field.{Below}
 use Rattle.tip5.proofs.JudgeLaws.{accepted-below, below-accepted}
-use Rattle.sponge.proofs.RefusalLaws.{accepted-length, first-none, length-accepted, none-first}
+use Rattle.tip5.proofs.RefusalLaws.{accepted-length, first-none, length-accepted, none-first}
 
 pub accepted-pad : (s : Tip5) (input : List ℕ) → padRefusal s input ≡ 0 → Below (s .state) × Below input
 accepted-pad s input e =

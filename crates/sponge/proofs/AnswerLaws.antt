@@ -1,9 +1,8 @@
--- An answer that code made with the refusal n, where the definition has m: granted and refused, for an answer of any type.
+-- The answers of this crate, as code makes them: granted and refused.
 -- Assumes nothing.
 use mathlib.Core.List.{List}
-use mathlib.Core.Path.{_≡_, ap, ap₂, sym, _∙_}
+use mathlib.Core.Path.{_≡_, ap, sym, _∙_}
 use Prim.Native.Nat.{ℕ}
-use Rattle.sponge.specs.declared.by_value.SpongeAnswer.{SpongeAnswer}
 use Rattle.sponge.specs.declared.by_value.SqueezeAnswer.{SqueezeAnswer}
 use Rattle.sponge.specs.declared.digest.DigestAnswer.{DigestAnswer}
 use Rattle.sponge.specs.declared.Tip5.{Tip5}
@@ -13,17 +12,6 @@ use Rattle.tip5.specs.Permutation.{nextState}
 use Rattle.tip5.proofs.AnswerLaws.{unless-granted, unless-refused}
 use Rattle.rounds.specs.Field.{Below}
 use Rattle.tip5.proofs.JudgeLaws.{below-accepted}
-
-pub answer-granted : {A B : Type 0} (make : ℕ → A → B) {n m : ℕ} {t next : A} (room : A) → n ≡ m → n ≡ 0 → t ≡ next → make n t ≡ make m (unless m next room)
-answer-granted make {next = next} room e none same = ap₂ make e (same ∙ sym (unless-granted next room (sym e ∙ none)))
-
-pub answer-refused : {A B : Type 0} (make : ℕ → A → B) {n m : ℕ} (next room : A) → n ≡ m → (n ≡ 0 → ⊥) → make n room ≡ make m (unless m next room)
-answer-refused make {m = m} next room e some = ap₂ make e (sym (unless-refused m next room (λ z. some (e ∙ z))))
-
--- the two answers
-
-abbrev pub spongeAnswer : ℕ → Tip5 → SpongeAnswer
-spongeAnswer n s = record { refusal = n; sponge = s }
 
 abbrev pub digestAnswer : ℕ → List ℕ → DigestAnswer
 digestAnswer n d = record { refusal = n; digest = d }

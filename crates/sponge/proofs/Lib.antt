@@ -8,6 +8,5 @@ pub mod LentWalk
 pub mod ListLaws
 pub mod PaddingLaws
 pub mod RecordLaws
-pub mod RefusalLaws
 pub mod SpongeLaws
 pub mod WalkBack

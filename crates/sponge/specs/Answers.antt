@@ -75,7 +75,7 @@ hashVarlen input = newDigest (wordRefusal input) (digestOf input)
 -- beside an absorb the saved words are judged, beside a squeeze the ten places are not
 abbrev pub stepBackRefusal : StepKind → Tip5 → (ten : List ℕ) → ℕ
 stepBackRefusal Squeeze s ten = first (lengthRefusal 10 ten ∷ wordRefusal (s .state) ∷ [])
-stepBackRefusal Absorb s ten = first (lengthRefusal 10 ten ∷ wordRefusal (s .state) ∷ wordRefusal ten ∷ [])
+stepBackRefusal Absorb s ten = absorbRefusal s ten
 
 abbrev pub steppedBack : StepKind → Tip5 → (ten : List ℕ) → Tip5
 steppedBack Squeeze s ten = unsqueezed s

@@ -9,10 +9,10 @@ use crate::put::put;
 use tip5::permutation::permutation;
 use tip5::refusal;
 ghost use mathlib.Core.Path.{_≡_};
-ghost use Prim.Native.Nat.{ℕ, _<_};
+ghost use Prim.Native.Nat.{_<_};
 ghost use lib.ListN.{getD, length};
 ghost use Rattle.numbers.specs.Lists.{tab};
-ghost use Rattle.numbers.specs.Modulus.{P};
+ghost use Rattle.rounds.specs.Field.{Below};
 ghost use Rattle.sponge.specs.Answers.{padAndAbsorbAll};
 ghost use Rattle.sponge.specs.Answers as Answers;
 ghost use Rattle.sponge.specs.History.{paddedSteps, run};
@@ -33,7 +33,7 @@ pub struct SqueezeAnswer {
 
 // The sponge after one permutation.
 fn permute(sponge: Tip5) -> Tip5
-    requires { ⌜ ((k : ℕ) → getD (sponge .state) k 0 < P) ⌝ }
+    requires { ⌜ Below (sponge .state) ⌝ }
     ensures { λ r. ⌜ r ≡ Sponge.permute sponge ⌝ }
 {
     let state = sponge.state;
@@ -63,7 +63,7 @@ pub(crate) fn overwrite(sponge: Tip5, ten: &[u64]) -> Tip5
 // The sponge after an absorb of ten words.
 pub(crate) fn absorbed(sponge: Tip5, ten: &[u64]) -> Tip5
     requires { ⌜ length (now ten) ≡ 10 ⌝ }
-    requires { ⌜ ((k : ℕ) → getD (sponge .state) k 0 < P) × ((k : ℕ) → getD (now ten) k 0 < P) ⌝ }
+    requires { ⌜ Below (sponge .state) × Below (now ten) ⌝ }
     ensures { λ r. ⌜ r ≡ Sponge.absorbed (now (ten .entry)) sponge ⌝ }
 {
     let overwritten = overwrite(sponge, ten);
@@ -72,7 +72,7 @@ pub(crate) fn absorbed(sponge: Tip5, ten: &[u64]) -> Tip5
 
 // The sponge after an absorb of every ten of the padded input.
 pub(crate) fn absorbed_all(sponge: Tip5, input: &[u64]) -> Tip5
-    requires { ⌜ ((k : ℕ) → getD (sponge .state) k 0 < P) × ((k : ℕ) → getD (now input) k 0 < P) ⌝ }
+    requires { ⌜ Below (sponge .state) × Below (now input) ⌝ }
     ensures { λ r. ⌜ r ≡ run (paddedSteps (now (input .entry))) sponge ⌝ }
 {
     let mut s = sponge;

@@ -10,10 +10,9 @@ use tip5::judge::judge_words;
 use tip5::refusal;
 ghost use mathlib.Core.List.{_++_};
 ghost use mathlib.Core.Path.{_≡_};
-ghost use Prim.Native.Nat.{ℕ, _<_};
 ghost use lib.ListN.{getD, length};
 ghost use Rattle.numbers.specs.Lists.{tab};
-ghost use Rattle.numbers.specs.Modulus.{P};
+ghost use Rattle.rounds.specs.Field.{Below};
 ghost use Rattle.sponge.specs.Answers.{hash10, hashPair, hashVarlen};
 ghost use Rattle.sponge.specs.Digest.{digestOf, digestOfPair, digestOfTen};
 
@@ -32,7 +31,7 @@ fn digest(sponge: Tip5) -> [u64; 5]
 }
 
 fn digest_of_ten(ten: &[u64]) -> [u64; 5]
-    requires { ⌜ (length (now ten) ≡ 10) × ((k : ℕ) → getD (now ten) k 0 < P) ⌝ }
+    requires { ⌜ (length (now ten) ≡ 10) × Below (now ten) ⌝ }
     ensures { λ r. ⌜ r ≡ digestOfTen (now (ten .entry)) ⌝ }
 {
     let start = Tip5::new(Domain::FixedLength);
@@ -53,7 +52,7 @@ fn joined(left: &[u64], right: &[u64]) -> [u64; 10]
 
 fn digest_of_pair(left: &[u64], right: &[u64]) -> [u64; 5]
     requires { ⌜ (length (now left) ≡ 5) × (length (now right) ≡ 5) ⌝ }
-    requires { ⌜ ((k : ℕ) → getD (now left) k 0 < P) × ((k : ℕ) → getD (now right) k 0 < P) ⌝ }
+    requires { ⌜ Below (now left) × Below (now right) ⌝ }
     ensures { λ r. ⌜ r ≡ digestOfPair (now (left .entry)) (now (right .entry)) ⌝ }
 {
     let ten = joined(left, right);
@@ -61,7 +60,7 @@ fn digest_of_pair(left: &[u64], right: &[u64]) -> [u64; 5]
 }
 
 fn digest_of(input: &[u64]) -> [u64; 5]
-    requires { ⌜ ((k : ℕ) → getD (now input) k 0 < P) ⌝ }
+    requires { ⌜ Below (now input) ⌝ }
     ensures { λ r. ⌜ r ≡ digestOf (now (input .entry)) ⌝ }
 {
     let start = Tip5::init();

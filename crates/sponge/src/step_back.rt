@@ -8,9 +8,8 @@ use crate::judge::judge_places;
 use tip5::inverse::inv_permutation;
 use tip5::refusal;
 ghost use mathlib.Core.Path.{_≡_};
-ghost use Prim.Native.Nat.{ℕ, _<_};
-ghost use lib.ListN.{getD, length};
-ghost use Rattle.numbers.specs.Modulus.{P};
+ghost use lib.ListN.{length};
+ghost use Rattle.rounds.specs.Field.{Below};
 ghost use Rattle.sponge.specs.Answers.{stepBack};
 ghost use Rattle.sponge.specs.Sponge as Sponge;
 
@@ -22,7 +21,7 @@ pub enum StepKind {
 
 // The sponge before one permutation.
 fn unpermute(sponge: Tip5) -> Tip5
-    requires { ⌜ ((k : ℕ) → getD (sponge .state) k 0 < P) ⌝ }
+    requires { ⌜ Below (sponge .state) ⌝ }
     ensures { λ r. ⌜ r ≡ Sponge.unpermute sponge ⌝ }
 {
     let state = sponge.state;
@@ -33,7 +32,7 @@ fn unpermute(sponge: Tip5) -> Tip5
 
 // The sponge before an absorb that overwrote the saved words.
 fn unabsorbed(sponge: Tip5, saved: &[u64]) -> Tip5
-    requires { ⌜ (length (now saved) ≡ 10) × ((k : ℕ) → getD (sponge .state) k 0 < P) ⌝ }
+    requires { ⌜ (length (now saved) ≡ 10) × Below (sponge .state) ⌝ }
     ensures { λ r. ⌜ r ≡ Sponge.unabsorbed (now (saved .entry)) sponge ⌝ }
 {
     let unpermuted = unpermute(sponge);

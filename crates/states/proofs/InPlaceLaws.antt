@@ -3,22 +3,20 @@
 use mathlib.Core.List.{List}
 use mathlib.Core.Path.{_≡_, sym, ap, ap₂, _∙_}
 use Prim.Native.Nat.{ℕ, suc, _<_}
-use borrow.Author.Tests.{eq-eqb, ne-eqb}
+use borrow.Author.Tests.{ne-eqb}
 use lib.ListN.{length}
 use Rattle.states.specs.InPlace.{roundSliceRefusal, sliceRefusal}
 use Rattle.tip5.specs.declared.permutation.StateAnswer.{StateAnswer}
 use Rattle.tip5.specs.declared.permutation.Way.{Way}
-use Rattle.tip5.specs.Judge.{unless, wordRefusal}
+use Rattle.tip5.specs.Judge.{unless}
 use Rattle.tip5.specs.Moves.{moved, roundOf}
 use Rattle.tip5.specs.Permutation.{nextState}
-use Rattle.tip5.proofs.AnswerLaws.{first-one, round-accepted}
+use Rattle.tip5.proofs.RefusalLaws.{round-accepted}
 use Rattle.tip5.proofs.MovesLaws.{moved-round}
 
-pub length-refused : (s : List ℕ) → (length s ≡ 16 → ⊥) → sliceRefusal s ≡ 2
-length-refused s h = simp (ne-eqb _ _ h)
-
-pub length-accepted : (s : List ℕ) → length s ≡ 16 → sliceRefusal s ≡ wordRefusal s
-length-accepted s h = simp (eq-eqb _ _ h) (first-one (wordRefusal s))
+-- a slice that is not sixteen words
+pub slice-refused : (s : List ℕ) → (length s ≡ 16 → ⊥) → sliceRefusal s ≡ 2
+slice-refused s h = simp (ne-eqb _ _ h)
 
 -- what a call in place promises: its refusal, and the slice moved or left alone
 abbrev pub InPlace : (refusal : ℕ) (next before : List ℕ) (r : ℕ) (after : List ℕ) → Type 0

@@ -11,7 +11,8 @@ use Rattle.rounds.specs.Field.{Below}
 use Rattle.rounds.specs.Round.{round, rounds}
 use Rattle.tip5.specs.Judge.{wordRefusal}
 use Rattle.tip5.specs.Permutation.{oneRound}
-use Rattle.tip5.proofs.AnswerLaws.{round-accepted, unless-granted}
+use Rattle.tip5.proofs.AnswerLaws.{unless-granted}
+use Rattle.tip5.proofs.RefusalLaws.{round-accepted}
 use Rattle.tip5.proofs.JudgeLaws.{below-accepted}
 
 -- the state that a call for one round answers, where it is not refused

@@ -3,9 +3,8 @@ use tip5::judge::judge_words;
 use tip5::permutation::round;
 use tip5::refusal;
 ghost use mathlib.Core.Path.{_≡_};
-ghost use Prim.Native.Nat.{ℕ, _<_};
-ghost use lib.ListN.{getD};
-ghost use Rattle.numbers.specs.Modulus.{P};
+ghost use Prim.Native.Nat.{_<_};
+ghost use Rattle.rounds.specs.Field.{Below};
 ghost use Rattle.states.specs.Trace.{sixStates};
 ghost use Rattle.states.specs.Trace as Trace;
 
@@ -18,7 +17,7 @@ pub struct TraceAnswer {
 // The state as it is or, where word k of the trace is the first of a later state, after one round
 // more.
 fn entering(k: usize, state: [u64; 16]) -> [u64; 16]
-    requires { ⌜ (k < 96) × ((k : ℕ) → getD state k 0 < P) ⌝ }
+    requires { ⌜ (k < 96) × Below state ⌝ }
     ensures { λ r. ⌜ r ≡ Trace.entering k state ⌝ }
 {
     if k % 16 != 0 {
@@ -32,7 +31,7 @@ fn entering(k: usize, state: [u64; 16]) -> [u64; 16]
 }
 
 fn six_states(state: [u64; 16]) -> [u64; 96]
-    requires { ⌜ ((k : ℕ) → getD state k 0 < P) ⌝ }
+    requires { ⌜ Below state ⌝ }
     ensures { λ r. ⌜ r ≡ sixStates state ⌝ }
 {
     let mut out = [0u64; 96];

@@ -1,12 +1,15 @@
--- An answer from its refusal: what stands there where the call is granted and where it is refused, and which refusal is first.
+-- An answer from its refusal: what stands there where the call is granted and where it is refused.
 -- Assumes nothing.
-use mathlib.Core.List.{List, [], _∷_}
-use mathlib.Core.Path.{_≡_, refl, sym, ap, _∙_}
-use Prim.Native.Nat.{ℕ, zero, suc, _≤_, _<_}
-use borrow.Author.Tests.{le-ltb, lt-ltb}
+use mathlib.Core.List.{List}
+use mathlib.Core.Path.{_≡_, refl, sym, ap, ap₂, _∙_}
+use Prim.Native.Nat.{ℕ, zero, suc, _<_}
+use borrow.Author.Tests.{lt-ltb}
+use Rattle.numbers.specs.Modulus.{P}
+use Rattle.rounds.specs.Field.{valueOf}
+use Rattle.tip5.specs.declared.b_field_element.ValueAnswer.{ValueAnswer}
 use Rattle.tip5.specs.declared.permutation.StateAnswer.{StateAnswer}
-use Rattle.tip5.specs.Judge.{first, unless}
-use Rattle.tip5.specs.Permutation.{nextState, roundRefusal}
+use Rattle.tip5.specs.Element.{elementOf, value}
+use Rattle.tip5.specs.Judge.{unless}
 
 pub unless-granted : {A : Type 0} {n : ℕ} (answer room : A) → n ≡ 0 → unless n answer room ≡ answer
 unless-granted answer room e = ap (λ (k : ℕ). unless k answer room) e
@@ -15,24 +18,17 @@ pub unless-refused : {A : Type 0} (n : ℕ) (answer room : A) → (n ≡ 0 → �
 unless-refused zero answer room no-refusal = absurd (no-refusal refl)
 unless-refused (suc n) answer room h = refl
 
--- a state answer that was made with the refusal n, where the definition has m
+-- an answer that code made with the refusal n, where the definition has m: granted and refused, for an answer of any type
 
-pub state-granted : {n m : ℕ} {t next : List ℕ} (s : List ℕ) → n ≡ m → n ≡ 0 → t ≡ next → _≡_ {A = StateAnswer} (record { refusal = n; state = t }) (nextState m next s)
-state-granted {next = next} s e granted same =
-    λ i. record { refusal = e i; state = (same ∙ sym (unless-granted next s (sym e ∙ granted))) i }
+pub answer-granted : {A B : Type 0} (make : ℕ → A → B) {n m : ℕ} {t next : A} (room : A) → n ≡ m → n ≡ 0 → t ≡ next → make n t ≡ make m (unless m next room)
+answer-granted make {next = next} room e none same = ap₂ make e (same ∙ sym (unless-granted next room (sym e ∙ none)))
 
-pub state-refused : {n m : ℕ} (next s : List ℕ) → n ≡ m → (n ≡ 0 → ⊥) → _≡_ {A = StateAnswer} (record { refusal = n; state = s }) (nextState m next s)
-state-refused {m = m} next s e refused =
-    λ i. record { refusal = e i; state = sym (unless-refused m next s (λ z. refused (e ∙ z))) i }
+pub answer-refused : {A B : Type 0} (make : ℕ → A → B) {n m : ℕ} (next room : A) → n ≡ m → (n ≡ 0 → ⊥) → make n room ≡ make m (unless m next room)
+answer-refused make {m = m} next room e some = ap₂ make e (sym (unless-refused m next room (λ z. some (e ∙ z))))
 
--- the first refusal of a list
+abbrev pub stateAnswer : ℕ → List ℕ → StateAnswer
+stateAnswer n s = record { refusal = n; state = s }
 
-pub first-one : (n : ℕ) → first (n ∷ []) ≡ n
-first-one zero = refl
-first-one (suc n) = refl
-
-pub round-accepted : {i : ℕ} (n : ℕ) → i < 5 → first (roundRefusal i ∷ n ∷ []) ≡ n
-round-accepted n h = simp (lt-ltb _ _ h) (first-one n)
-
-pub round-refused : {i : ℕ} (ns : List ℕ) → 5 ≤ i → first (roundRefusal i ∷ ns) ≡ 8
-round-refused ns h = simp (le-ltb _ _ h)
+-- the value that the call on an element of a word below P answers
+pub value-answered : {a : ValueAnswer} (w : ℕ) → w < P → a ≡ value (elementOf w) → a .value .0 ≡ valueOf w
+value-answered w h e = ap (λ (a : ValueAnswer). a .value .0) e ∙ simp (lt-ltb w P h)

@@ -4,10 +4,10 @@ use mathlib.Core.Path.{_≡_, refl}
 use mathlib.Core.Bool.{Bool, true, false, cond}
 use mathlib.Core.List.{List, [], _∷_}
 use Prim.Native.Nat.{ℕ, zero, suc, _<_}
-use native.Mathlib.Omega.{arith}
 use borrow.Author.Tests.{lt-ltb}
 use lib.Dec.{T, lit<, ltb, ltb→lt}
 use Rattle.numbers.specs.Modulus.{P}
+use Rattle.numbers.proofs.Tests.{passed}
 use Rattle.rounds.specs.Field.{Below}
 use Rattle.tip5.specs.Judge.{allBelow, wordRefusal}
 
@@ -32,9 +32,5 @@ pub below-accepted : (s : List ℕ) → Below s → wordRefusal s ≡ 0
 below-accepted s h = rw (below-allBelow s h)
 
 -- and where nothing is refused every word is below P
-passed : (b : Bool) → _≡_ {A = ℕ} (cond b 0 1) 0 → T b
-passed true e = tt
-passed false e = absurd (omega arith)
-
 pub accepted-below : (s : List ℕ) → wordRefusal s ≡ 0 → Below s
-accepted-below s e = allBelow-below s (passed (allBelow s) e)
+accepted-below s e = allBelow-below s (rw (passed (allBelow s) 0 e) tt)

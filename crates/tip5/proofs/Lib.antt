@@ -7,5 +7,6 @@ pub mod MendedLaws
 pub mod MovesLaws
 pub mod PowersLaws
 pub mod ReducedLaws
+pub mod RefusalLaws
 pub mod RowLaws
 pub mod SboxLaws

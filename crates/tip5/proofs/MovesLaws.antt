@@ -8,7 +8,7 @@ use Rattle.tip5.specs.declared.permutation.Way.{Way}
 use Rattle.tip5.specs.Judge.{wordRefusal}
 use Rattle.tip5.specs.Moves.{allOf, moved, movedAnswer, roundAnswer, roundOf}
 use Rattle.tip5.specs.Permutation.{nextState}
-use Rattle.tip5.proofs.AnswerLaws.{round-accepted}
+use Rattle.tip5.proofs.RefusalLaws.{round-accepted}
 
 pub moved-round : (way : Way) {which : ℕ} (s : List ℕ) → which < 5 → moved way which s ≡ roundOf way which s
 moved-round way s h = simp (lt-ltb _ _ h)

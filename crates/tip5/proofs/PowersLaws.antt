@@ -49,10 +49,10 @@ unfolding powers
 powers-one a e h = sym (tab-unique a (λ k. power (getD a k 0) 1) e λ k k<. sym (power-one (h k)))
 
 -- one link of the chain: n squarings of the j-th powers, and the k-th powers
-pub powers-raised : (a : List ℕ) (j k n : ℕ) {x y : List ℕ} → x ≡ powers j a → y ≡ powers k a
+pub powers-accumulated : (a : List ℕ) (j k n : ℕ) {x y : List ℕ} → x ≡ powers j a → y ≡ powers k a
     → tab 4 0 (λ i. mul (power (getD x i 0) (2 ^ n)) (getD y i 0)) ≡ powers (j * 2 ^ n + k) a
 unfolding powers
-powers-raised a j k n {x} {y} ex ey =
+powers-accumulated a j k n {x} {y} ex ey =
     tab-same 4 0 λ i low high.
     ap₂ (λ (v u : ℕ). mul (power v (2 ^ n)) u) (powers-at j a ex i high) (powers-at k a ey i high)
     ∙ ap (λ (v : ℕ). mul v (power (getD a i 0) k)) (power-power (getD a i 0) j (2 ^ n))

@@ -1,24 +1,16 @@
 -- A row of the matrix times the words, summed one product at a time.
 -- Assumes nothing.
 use mathlib.Core.Path.{_≡_, sym, ap, _∙_}
-use Prim.Native.Nat.{ℕ, suc, _+_, _-_, _*_, _%_, _^_, _<_}
+use Prim.Native.Nat.{ℕ, _+_, _-_, _*_, _%_, _^_, _<_}
 use native.Mathlib.Nat.{add-assoc, add-zero, mul-one}
-use native.Mathlib.Numerals.{add-one}
 use native.Mathlib.Omega.{arith}
 use Rattle.numbers.specs.Congruence.{Cong}
 use Rattle.numbers.specs.Lists.{total}
 use Rattle.numbers.specs.Modulus.{P, rInv}
 use Rattle.numbers.proofs.Congruence.{cong-add, cong-eq, cong-mod, cong-mul, cong-refl, cong-remainder, cong-sym, cong-trans}
+use Rattle.numbers.proofs.Lists.{total-next}
 use Rattle.numbers.proofs.Montgomery.{rInv-inverse}
 use Rattle.rounds.specs.Field.{add, mul, rawOf}
-
--- what is left of a sum loses its first summand
-total-next : (n i : ℕ) (f : ℕ → ℕ) → i < n → total (n - i) i f ≡ f i + total (n - (i + 1)) (i + 1) f
-total-next n i f h =
-    ap (λ (k : ℕ). total k i f) (left h) ∙ ap (λ (j : ℕ). f i + total (n - (i + 1)) j f) (sym (add-one i))
-  where
-    left : i < n → n - i ≡ suc (n - (i + 1))
-    left h = omega arith
 
 -- the product with the raw word of a value is that value's multiple
 pub mul-rawOf : (v a : ℕ) → Cong P (mul (rawOf v) a) (v * a)

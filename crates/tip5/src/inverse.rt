@@ -8,9 +8,8 @@ use crate::permutation::judged_round;
 use rounds::inverse_tables;
 use rounds::tables;
 ghost use mathlib.Core.Path.{_≡_};
-ghost use Prim.Native.Nat.{ℕ, _<_, _≤_};
-ghost use lib.ListN.{getD};
-ghost use Rattle.numbers.specs.Modulus.{P};
+ghost use Prim.Native.Nat.{_<_, _≤_};
+ghost use Rattle.rounds.specs.Field.{Below};
 ghost use Rattle.tip5.specs.Permutation.{invOneRound, invPermutation};
 ghost use Rattle.rounds.specs.Inverse.{invPermuted, invRound};
 ghost use Rattle.rounds.specs.InverseTables.{invLookupTable, rawInvColumn};
@@ -25,7 +24,7 @@ fn inv_round_with(
     state: [u64; 16],
 ) -> [u64; 16]
     requires { ⌜ (now table ≡ invLookupTable) × (now column ≡ rawInvColumn) × (now constants ≡ rawConstants) ⌝ }
-    requires { ⌜ (round < 5) × ((k : ℕ) → getD state k 0 < P) ⌝ }
+    requires { ⌜ (round < 5) × Below state ⌝ }
     ensures { λ r. ⌜ r ≡ invRound round state ⌝ }
 {
     let s = inverse_layers::subtract_constants(constants, round, state);
@@ -40,7 +39,7 @@ fn five_inv_rounds_with(
     state: [u64; 16],
 ) -> [u64; 16]
     requires { ⌜ (now table ≡ invLookupTable) × (now column ≡ rawInvColumn) × (now constants ≡ rawConstants) ⌝ }
-    requires { ⌜ ((k : ℕ) → getD state k 0 < P) ⌝ }
+    requires { ⌜ Below state ⌝ }
     ensures { λ r. ⌜ r ≡ invPermuted state ⌝ }
 {
     let s4 = inv_round_with(table, column, constants, 4, state);
@@ -52,7 +51,7 @@ fn five_inv_rounds_with(
 
 // Round 0 to 4 undone or, for 5, all five. The tables are laid out here and nowhere else.
 pub(crate) fn inv_rounds_of(which: usize, state: [u64; 16]) -> [u64; 16]
-    requires { ⌜ (which ≤ 5) × ((k : ℕ) → getD state k 0 < P) ⌝ }
+    requires { ⌜ (which ≤ 5) × Below state ⌝ }
     ensures { λ r. ⌜ r ≡ moved Way.Back which state ⌝ }
 {
     let table = inverse_tables::INV_LOOKUP_TABLE;

@@ -3,14 +3,15 @@ use crate::field;
 use crate::layers;
 use crate::seventh_root::seventh_roots;
 ghost use mathlib.Core.Path.{_≡_};
-ghost use Prim.Native.Nat.{ℕ, _+_, _%_, _<_, _≤_};
+ghost use Prim.Native.Nat.{_+_, _%_, _<_, _≤_};
 ghost use lib.ListN.{getD};
 ghost use Rattle.numbers.specs.Circulant.{rowSum};
 ghost use Rattle.numbers.specs.Fill.{Filled};
 ghost use Rattle.numbers.specs.Lists.{tab};
 ghost use Rattle.numbers.specs.Modulus.{P};
+ghost use Rattle.rounds.specs.Field.{Below};
 ghost use Rattle.rounds.specs.Constants.{invMdsColumn};
-ghost use Rattle.rounds.specs.Inverse.{invSbox, invSboxLayer, subConstants};
+ghost use Rattle.rounds.specs.Inverse.{invSbox, invSboxLayer, subtractConstants};
 ghost use Rattle.rounds.specs.InverseTables.{invLookupTable, rawInvColumn};
 ghost use Rattle.rounds.specs.Round.{circulant};
 ghost use Rattle.rounds.specs.Tables.{rawConstants};
@@ -18,8 +19,8 @@ ghost use Rattle.rounds.specs.Tables.{rawConstants};
 // The round's constants subtracted.
 pub(crate) fn subtract_constants(constants: &[u64; 80], round: usize, words: [u64; 16]) -> [u64; 16]
     requires { ⌜ (now constants ≡ rawConstants) × (round < 5) ⌝ }
-    requires { ⌜ ((k : ℕ) → getD words k 0 < P) ⌝ }
-    ensures { λ r. ⌜ r ≡ subConstants round words ⌝ }
+    requires { ⌜ Below words ⌝ }
+    ensures { λ r. ⌜ r ≡ subtractConstants round words ⌝ }
 {
     let mut out = words;
     let mut r = 0;
@@ -33,7 +34,7 @@ pub(crate) fn subtract_constants(constants: &[u64; 80], round: usize, words: [u6
 // Row r of the inverse matrix times the words.
 fn inv_row(column: &[u64; 16], words: [u64; 16], r: usize) -> u64
     requires { ⌜ (now column ≡ rawInvColumn) × (r < 16) ⌝ }
-    requires { ⌜ ((k : ℕ) → getD words k 0 < P) ⌝ }
+    requires { ⌜ Below words ⌝ }
     ensures { λ w. ⌜ w ≡ rowSum invMdsColumn words r % P ⌝ }
 {
     let mut sum: u64 = 0;
@@ -47,7 +48,7 @@ fn inv_row(column: &[u64; 16], words: [u64; 16], r: usize) -> u64
 
 pub(crate) fn inv_mds_matrix_mul(column: &[u64; 16], words: [u64; 16]) -> [u64; 16]
     requires { ⌜ now column ≡ rawInvColumn ⌝ }
-    requires { ⌜ ((k : ℕ) → getD words k 0 < P) ⌝ }
+    requires { ⌜ Below words ⌝ }
     ensures { λ r. ⌜ r ≡ circulant invMdsColumn words ⌝ }
 {
     let mut out = words;
@@ -69,7 +70,7 @@ fn four_of(s: [u64; 16], i: usize) -> [u64; 4]
 
 // Where the words before i are done: also words i to i + 3, which are roots.
 fn put_roots(out: [u64; 16], s: [u64; 16], i: usize) -> [u64; 16]
-    requires { ⌜ (4 ≤ i) × (i ≤ 12) × ((k : ℕ) → getD s k 0 < P) ⌝ }
+    requires { ⌜ (4 ≤ i) × (i ≤ 12) × Below s ⌝ }
     requires { ⌜ Filled 16 (λ k. invSbox k (getD s k 0)) i out ⌝ }
     ensures { λ r. ⌜ Filled 16 (λ k. invSbox k (getD s k 0)) (i + 4) r ⌝ }
 {
@@ -84,7 +85,7 @@ fn put_roots(out: [u64; 16], s: [u64; 16], i: usize) -> [u64; 16]
 }
 
 pub(crate) fn inv_sbox_layer(table: &[u8; 256], s: [u64; 16]) -> [u64; 16]
-    requires { ⌜ (now table ≡ invLookupTable) × ((k : ℕ) → getD s k 0 < P) ⌝ }
+    requires { ⌜ (now table ≡ invLookupTable) × Below s ⌝ }
     ensures { λ r. ⌜ r ≡ invSboxLayer s ⌝ }
 {
     let four = layers::lookup_words(table, s);

@@ -3,7 +3,7 @@ use crate::b_field_element::BFieldElement;
 use crate::field;
 use words::sum::overflowing_add;
 ghost use mathlib.Core.Path.{_≡_};
-ghost use Prim.Native.Nat.{ℕ, _+_, _*_, _/_, _%_, _^_, _<_};
+ghost use Prim.Native.Nat.{_+_, _*_, _/_, _%_, _^_, _<_};
 ghost use lib.ListN.{getD};
 ghost use Rattle.matrix.specs.Column.{mdsColumn};
 ghost use Rattle.numbers.specs.Circulant.{rowSum};
@@ -11,7 +11,7 @@ ghost use Rattle.numbers.specs.Fill.{Filled};
 ghost use Rattle.numbers.specs.Lists.{tab, total};
 ghost use Rattle.numbers.specs.Modulus.{P};
 ghost use Rattle.tip5.specs.Element.{elementOf};
-ghost use Rattle.rounds.specs.Field.{power};
+ghost use Rattle.rounds.specs.Field.{Below, power};
 ghost use Rattle.tip5.specs.Reduced.{reduced};
 ghost use Rattle.rounds.specs.Tables.{lookupTable, rawConstants};
 ghost use Rattle.rounds.specs.Round.{addConstants, bytewise, sboxLayer};
@@ -77,7 +77,7 @@ pub(crate) fn lookup_words(table: &[u8; 256], s: [u64; 16]) -> [u64; 16]
 }
 
 pub(crate) fn sbox_layer(table: &[u8; 256], s: [u64; 16]) -> [u64; 16]
-    requires { ⌜ (now table ≡ lookupTable) × ((k : ℕ) → getD s k 0 < P) ⌝ }
+    requires { ⌜ (now table ≡ lookupTable) × Below s ⌝ }
     ensures { λ r. ⌜ r ≡ sboxLayer s ⌝ }
 {
     let mut out = lookup_words(table, s);

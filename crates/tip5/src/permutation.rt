@@ -5,9 +5,8 @@ use crate::layers;
 use crate::refusal;
 use rounds::tables;
 ghost use mathlib.Core.Path.{_≡_};
-ghost use Prim.Native.Nat.{ℕ, _<_, _≤_};
-ghost use lib.ListN.{getD};
-ghost use Rattle.numbers.specs.Modulus.{P};
+ghost use Prim.Native.Nat.{_<_, _≤_};
+ghost use Rattle.rounds.specs.Field.{Below};
 ghost use Rattle.tip5.specs.Moves.{movedAnswer, roundAnswer};
 ghost use Rattle.tip5.specs.Moves as Moves;
 ghost use Rattle.tip5.specs.Permutation.{oneRound};
@@ -30,7 +29,7 @@ pub enum Way {
 
 fn round_with(table: &[u8; 256], constants: &[u64; 80], round: usize, state: [u64; 16]) -> [u64; 16]
     requires { ⌜ (now table ≡ lookupTable) × (now constants ≡ rawConstants) ⌝ }
-    requires { ⌜ (round < 5) × ((k : ℕ) → getD state k 0 < P) ⌝ }
+    requires { ⌜ (round < 5) × Below state ⌝ }
     ensures { λ r. ⌜ r ≡ Round.round round state ⌝ }
 {
     let s = layers::sbox_layer(table, state);
@@ -40,7 +39,7 @@ fn round_with(table: &[u8; 256], constants: &[u64; 80], round: usize, state: [u6
 
 fn five_rounds_with(table: &[u8; 256], constants: &[u64; 80], state: [u64; 16]) -> [u64; 16]
     requires { ⌜ (now table ≡ lookupTable) × (now constants ≡ rawConstants) ⌝ }
-    requires { ⌜ ((k : ℕ) → getD state k 0 < P) ⌝ }
+    requires { ⌜ Below state ⌝ }
     ensures { λ r. ⌜ r ≡ permuted state ⌝ }
 {
     let s1 = round_with(table, constants, 0, state);
@@ -52,7 +51,7 @@ fn five_rounds_with(table: &[u8; 256], constants: &[u64; 80], state: [u64; 16]) 
 
 // Round 0 to 4 or, for 5, all five. The tables are laid out here and nowhere else.
 fn rounds_of(which: usize, state: [u64; 16]) -> [u64; 16]
-    requires { ⌜ (which ≤ 5) × ((k : ℕ) → getD state k 0 < P) ⌝ }
+    requires { ⌜ (which ≤ 5) × Below state ⌝ }
     ensures { λ r. ⌜ r ≡ Moves.moved Way.Forth which state ⌝ }
 {
     let table = tables::LOOKUP_TABLE;
@@ -64,7 +63,7 @@ fn rounds_of(which: usize, state: [u64; 16]) -> [u64; 16]
 }
 
 fn moved(way: Way, which: usize, state: [u64; 16]) -> [u64; 16]
-    requires { ⌜ (which ≤ 5) × ((k : ℕ) → getD state k 0 < P) ⌝ }
+    requires { ⌜ (which ≤ 5) × Below state ⌝ }
     ensures { λ r. ⌜ r ≡ Moves.moved way which state ⌝ }
 {
     match way {

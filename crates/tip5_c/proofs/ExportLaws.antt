@@ -3,22 +3,18 @@
 use mathlib.Core.List.{List}
 use mathlib.Core.Path.{_≡_, refl, sym, ap, _∙_}
 use Prim.Native.Nat.{ℕ, zero, suc}
-use borrow.Author.Tests.{eq-eqb, ne-eqb}
+use borrow.Author.Tests.{ne-eqb}
 use lib.ListN.{length}
 use Rattle.tip5.specs.declared.permutation.StateAnswer.{StateAnswer}
 use Rattle.tip5.specs.Judge.{unless, wordRefusal}
 use Rattle.tip5.specs.Permutation.{nextState}
-use Rattle.tip5.proofs.AnswerLaws.{first-one}
+use Rattle.tip5.proofs.RefusalLaws.{length-judged}
 use Rattle.tip5_c.specs.Bytes.{bytesOf, wordsOf}
 use Rattle.tip5_c.specs.Export.{after, bytesRefusal}
 
 -- the refusal and the bytes that the definition gives
 abbrev pub Exported : (move : List ℕ → List ℕ) (before : List ℕ) (r : ℕ) (bytes : List ℕ) → Type 0
 Exported move before r bytes = (r ≡ bytesRefusal before) × (bytes ≡ after move before)
-
--- 128 bytes are judged by their words
-pub length-accepted : (bytes : List ℕ) → length bytes ≡ 128 → bytesRefusal bytes ≡ wordRefusal (wordsOf bytes)
-length-accepted bytes h = simp (eq-eqb _ _ h) (first-one (wordRefusal (wordsOf bytes)))
 
 -- not 128 bytes
 pub wrong-length : (move : List ℕ → List ℕ) (bytes : List ℕ) → (length bytes ≡ 128 → ⊥) → Exported move bytes 2 bytes
@@ -38,7 +34,7 @@ pub answered : (move : List ℕ → List ℕ) (bytes : List ℕ) {a : StateAnswe
     → Exported move bytes r out
 answered move bytes h e same put =
     let ws = wordsOf bytes in
-    let judged = length-accepted bytes h in (
+    let judged = length-judged bytes (wordRefusal (wordsOf bytes)) h in (
       same ∙ ap (λ (x : StateAnswer). x .refusal) e ∙ sym judged,
       put
           ∙ ap (λ (x : StateAnswer). unless (x .refusal) (bytesOf (x .state)) bytes) e

@@ -8,7 +8,8 @@ use lib.ListN.{set}
 use Rattle.draws.specs.Draw.{drawnFrom, indexOf}
 use Rattle.draws.specs.Extended.{Extended}
 use Rattle.draws.proofs.ExtendedLaws.{extended-full, extended-none, extended-one}
-use Rattle.draws.proofs.IndexLaws.{drawn-index, drawn-skipped, value-answered}
+use Rattle.draws.proofs.IndexLaws.{drawn-index, drawn-skipped}
+use Rattle.tip5.proofs.AnswerLaws.{value-answered}
 use Rattle.rounds.specs.Field.{valueOf}
 use borrow.Author.Needs.{needs}
 use Rattle.draws.proofs.index.put_index.Statement.{statement}

@@ -6,7 +6,7 @@ use Prim.Native.Nat.{ℕ, _*_}
 use Rattle.rows.specs.declared.row.Shape.{Shape}
 use Rattle.rows.specs.Rows.{digestCount, sizeRefusal}
 use Rattle.rows.proofs.ShapeLaws.{accepted-width}
-use Rattle.sponge.proofs.RefusalLaws.{first-ends, first-goes-on, first-stops}
+use Rattle.tip5.proofs.RefusalLaws.{first-ends, first-goes-on, first-stops}
 use Rattle.tip5.specs.Judge.{lengthRefusal, wordRefusal}
 use borrow.Author.Needs.{needs}
 use Rattle.rows.proofs.judge.judge_rows.Statement.{statement}

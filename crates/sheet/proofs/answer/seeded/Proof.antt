@@ -8,7 +8,8 @@ use Rattle.sponge.specs.Answers.{padAndAbsorbAll}
 use Rattle.sponge.specs.History.{paddedSteps, run}
 use Rattle.sponge.specs.Sponge.{start}
 use Rattle.tip5.specs.Judge.{wordRefusal}
-use Rattle.tip5.proofs.AnswerLaws.{first-one, unless-granted}
+use Rattle.tip5.proofs.AnswerLaws.{unless-granted}
+use Rattle.tip5.proofs.RefusalLaws.{first-one}
 use Rattle.sheet.specs.Answer.{seededBy}
 use borrow.Author.Needs.{needs}
 use Rattle.sheet.proofs.answer.seeded.Statement.{statement}

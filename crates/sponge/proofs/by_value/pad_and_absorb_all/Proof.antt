@@ -3,7 +3,8 @@
 use mathlib.Core.Path.{sym, _∙_}
 use Rattle.sponge.specs.History.{paddedSteps, run}
 use Rattle.sponge.proofs.AcceptedLaws.{accepted-pad}
-use Rattle.sponge.proofs.AnswerLaws.{answer-granted, answer-refused, spongeAnswer}
+use Rattle.sponge.specs.InPlace.{leaving}
+use Rattle.tip5.proofs.AnswerLaws.{answer-granted, answer-refused}
 use borrow.Author.Needs.{needs}
 use Rattle.sponge.proofs.by_value.pad_and_absorb_all.Statement.{statement}
 use Rattle.sponge.proofs.by_value.pad_and_absorb_all.Tie as tie
@@ -14,7 +15,7 @@ judge-input-requires c κs = search needs
 returns : tie.Need-returns
 returns c =
     let a = c .before .before .before .args in
-    answer-refused spongeAnswer (run (paddedSteps (a .input .now)) (a .sponge)) (a .sponge) (c .before .judge-input .ensures) (c .if1 .taken)
+    answer-refused leaving (run (paddedSteps (a .input .now)) (a .sponge)) (a .sponge) (c .before .judge-input .ensures) (c .if1 .taken)
 
 absorbed-all-requires : tie.Need-absorbed-all-requires
 absorbed-all-requires c κs =
@@ -23,7 +24,7 @@ absorbed-all-requires c κs =
 
 returns-2 : tie.Need-returns-2
 returns-2 c =
-    answer-granted spongeAnswer (c .before .before .before .before .args .sponge) (c .before .before .judge-input .ensures) (c .before .if1 .left) (c .absorbed-all .ensures)
+    answer-granted leaving (c .before .before .before .before .args .sponge) (c .before .before .judge-input .ensures) (c .before .if1 .left) (c .absorbed-all .ensures)
 
 pub pad-and-absorb-all-spec : {M : Type 1} → statement M
 pad-and-absorb-all-spec =

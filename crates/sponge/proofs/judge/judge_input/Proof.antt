@@ -2,7 +2,7 @@
 -- Assumes nothing.
 use mathlib.Core.List.{[], _∷_}
 use Rattle.tip5.specs.Judge.{wordRefusal}
-use Rattle.sponge.proofs.RefusalLaws.{first-ends, first-stops}
+use Rattle.tip5.proofs.RefusalLaws.{first-ends, first-stops}
 use borrow.Author.Needs.{needs}
 use Rattle.sponge.proofs.judge.judge_input.Statement.{statement}
 use Rattle.sponge.proofs.judge.judge_input.Tie as tie

@@ -1,7 +1,7 @@
 -- `judge::judge_length` meets its contract.
 -- Assumes nothing.
 use mathlib.Core.Path.{sym}
-use Rattle.sponge.proofs.RefusalLaws.{length-accepted, length-refused}
+use Rattle.tip5.proofs.RefusalLaws.{length-accepted, length-refused}
 use Rattle.sponge.proofs.judge.judge_length.Statement.{statement}
 use Rattle.sponge.proofs.judge.judge_length.Tie as tie
 

@@ -3,7 +3,8 @@
 use mathlib.Core.Path.{sym, _∙_}
 use Rattle.sponge.specs.Sponge.{unabsorbed}
 use Rattle.sponge.proofs.AcceptedLaws.{accepted-absorb}
-use Rattle.sponge.proofs.AnswerLaws.{answer-granted, answer-refused, spongeAnswer}
+use Rattle.sponge.specs.InPlace.{leaving}
+use Rattle.tip5.proofs.AnswerLaws.{answer-granted, answer-refused}
 use borrow.Author.Needs.{needs}
 use Rattle.sponge.proofs.step_back.absorb_back.Statement.{statement}
 use Rattle.sponge.proofs.step_back.absorb_back.Tie as tie
@@ -14,7 +15,7 @@ judge-absorb-requires c κs = search needs
 returns : tie.Need-returns
 returns c =
     let a = c .before .before .before .args in
-    answer-refused spongeAnswer (unabsorbed (a .saved .now) (a .sponge)) (a .sponge) (c .before .judge-absorb .ensures) (c .if1 .taken)
+    answer-refused leaving (unabsorbed (a .saved .now) (a .sponge)) (a .sponge) (c .before .judge-absorb .ensures) (c .if1 .taken)
 
 unabsorbed-requires : tie.Need-unabsorbed-requires
 unabsorbed-requires c κs =
@@ -24,7 +25,7 @@ unabsorbed-requires c κs =
 
 returns-2 : tie.Need-returns-2
 returns-2 c =
-    answer-granted spongeAnswer (c .before .before .before .before .args .sponge) (c .before .before .judge-absorb .ensures) (c .before .if1 .left) (c .unabsorbed .ensures)
+    answer-granted leaving (c .before .before .before .before .args .sponge) (c .before .before .judge-absorb .ensures) (c .before .if1 .left) (c .unabsorbed .ensures)
 
 pub absorb-back-spec : {M : Type 1} → statement M
 absorb-back-spec = tie.close (tie.spec judge-absorb-requires returns unabsorbed-requires returns-2)

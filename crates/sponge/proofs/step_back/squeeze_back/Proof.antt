@@ -3,7 +3,8 @@
 use mathlib.Core.Path.{sym, _∙_}
 use Rattle.sponge.specs.Sponge.{unsqueezed}
 use Rattle.sponge.proofs.AcceptedLaws.{accepted-places}
-use Rattle.sponge.proofs.AnswerLaws.{answer-granted, answer-refused, spongeAnswer}
+use Rattle.sponge.specs.InPlace.{leaving}
+use Rattle.tip5.proofs.AnswerLaws.{answer-granted, answer-refused}
 use borrow.Author.Needs.{needs}
 use Rattle.sponge.proofs.step_back.squeeze_back.Statement.{statement}
 use Rattle.sponge.proofs.step_back.squeeze_back.Tie as tie
@@ -14,7 +15,7 @@ judge-places-requires c κs = search needs
 returns : tie.Need-returns
 returns c =
     let s = c .before .before .before .args .sponge in
-    answer-refused spongeAnswer (unsqueezed s) s (c .before .judge-places .ensures) (c .if1 .taken)
+    answer-refused leaving (unsqueezed s) s (c .before .judge-places .ensures) (c .if1 .taken)
 
 unpermute-requires : tie.Need-unpermute-requires
 unpermute-requires c κs =
@@ -24,7 +25,7 @@ unpermute-requires c κs =
 returns-2 : tie.Need-returns-2
 unfolding unsqueezed
 returns-2 c =
-    answer-granted spongeAnswer (c .before .before .before .before .args .sponge) (c .before .before .judge-places .ensures) (c .before .if1 .left) (c .unpermute .ensures)
+    answer-granted leaving (c .before .before .before .before .args .sponge) (c .before .before .judge-places .ensures) (c .before .if1 .left) (c .unpermute .ensures)
 
 pub squeeze-back-spec : {M : Type 1} → statement M
 squeeze-back-spec = tie.close (tie.spec judge-places-requires returns unpermute-requires returns-2)

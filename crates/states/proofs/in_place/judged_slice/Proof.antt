@@ -2,7 +2,9 @@
 -- Assumes nothing.
 use mathlib.Core.Path.{ap, _∙_}
 use Rattle.tip5.specs.Moves.{moved, movedAnswer}
-use Rattle.states.proofs.InPlaceLaws.{in-place-moved, in-place-refused, length-accepted, length-refused}
+use Rattle.states.proofs.InPlaceLaws.{in-place-moved, in-place-refused, slice-refused}
+use Rattle.tip5.specs.Judge.{wordRefusal}
+use Rattle.tip5.proofs.RefusalLaws.{length-judged}
 use borrow.Author.Needs.{needs}
 use Rattle.states.proofs.in_place.judged_slice.Statement.{statement}
 use Rattle.states.proofs.in_place.judged_slice.Tie as tie
@@ -11,7 +13,7 @@ returns : tie.Need-returns
 returns c =
     let a = c .before .before .args in
     let s = a .state .now in
-    in-place-refused (moved (a .way) (a .which) s) s (length-refused s (c .if1 .taken))
+    in-place-refused (moved (a .way) (a .which) s) s (slice-refused s (c .if1 .taken))
 
 sixteen-requires : tie.Need-sixteen-requires
 sixteen-requires c κs = search needs
@@ -31,7 +33,7 @@ returns-2 c =
     let s = a .state .now in
     let at-sixteen = c .before .before .before .before .before .before in
     in-place-moved (moved (a .way) (a .which) s) s (c .before .before .before .before .before .answered .ensures ∙ ap (movedAnswer (a .way) (a .which)) (at-sixteen .sixteen .ensures))
-    (c .before .before .put .ensures) (length-accepted s (at-sixteen .before .before .if1 .left))
+    (c .before .before .put .ensures) (length-judged s (wordRefusal s) (at-sixteen .before .before .if1 .left))
 
 pub judged-slice-spec : {M : Type 1} → statement M
 judged-slice-spec =

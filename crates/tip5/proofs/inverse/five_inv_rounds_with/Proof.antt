@@ -3,7 +3,7 @@
 use mathlib.Core.Path.{ap, subst⁻¹, _∙_}
 use borrow.Author.Needs.{needs}
 use lib.Dec.{lit<}
-use Rattle.rounds.specs.Inverse.{invPermuted, invRound, unrounds}
+use Rattle.rounds.specs.Inverse.{invPermuted, invRound, invRounds}
 use Rattle.rounds.specs.Field.{Below}
 use Rattle.rounds.proofs.RoundLaws.{invRound-below}
 use Rattle.tip5.proofs.inverse.five_inv_rounds_with.Statement.{statement}
@@ -25,7 +25,7 @@ inv-round-with-requires-5 : tie.Need-inv-round-with-requires-5
 inv-round-with-requires-5 c κs = (c .before .before .before .before .pre .0, (lit< tt, subst⁻¹ Below (c .inv-round-with4 .ensures) (invRound-below _ _)))
 
 returns : tie.Need-returns
-unfolding invPermuted unrounds
+unfolding invPermuted invRounds
 returns c =
     let first = c .before .before .before .before .inv-round-with .ensures in
     let second = c .before .before .before .inv-round-with2 .ensures ∙ ap (invRound 3) first in

@@ -6,7 +6,7 @@ use Rattle.rounds.specs.Constants.{invMdsColumn}
 use Rattle.rounds.specs.Inverse.{invRound, invSboxLayer}
 use Rattle.rounds.specs.Round.{circulant}
 use Rattle.rounds.specs.Field.{Below}
-use Rattle.rounds.proofs.RoundLaws.{circulant-below, subConstants-below}
+use Rattle.rounds.proofs.RoundLaws.{circulant-below, subtractConstants-below}
 use Rattle.tip5.proofs.inverse.inv_round_with.Statement.{statement}
 use Rattle.tip5.proofs.inverse.inv_round_with.Tie as tie
 
@@ -15,7 +15,7 @@ subtract-constants-requires c κs = search needs
 
 inv-mds-matrix-mul-requires : tie.Need-inv-mds-matrix-mul-requires
 inv-mds-matrix-mul-requires c κs =
-    (c .before .pre .0 .1, subst⁻¹ Below (c .subtract-constants .ensures) (subConstants-below _ _))
+    (c .before .pre .0 .1, subst⁻¹ Below (c .subtract-constants .ensures) (subtractConstants-below _ _))
 
 inv-sbox-layer-requires : tie.Need-inv-sbox-layer-requires
 inv-sbox-layer-requires c κs =

@@ -7,7 +7,7 @@ use native.Mathlib.Nat.{le-of-lt, mod-lt, zero-add}
 use native.Mathlib.Omega.{arith}
 use lib.Dec.{lit<}
 use lib.ListN.{getD}
-use Rattle.numbers.specs.Circulant.{rowSum}
+use Rattle.numbers.specs.Circulant.{entry, rowSum}
 use Rattle.numbers.specs.Congruence.{Cong}
 use Rattle.numbers.specs.Lists.{total}
 use Rattle.numbers.specs.Modulus.{P}
@@ -23,7 +23,7 @@ use Rattle.tip5.proofs.inverse_layers.inv_row.Tie as tie
 
 -- summand c of row r
 abbrev term : (r : ℕ) (words : List ℕ) (c : ℕ) → ℕ
-term r words c = getD invMdsColumn ((16 + r - c) % 16) 0 * getD words c 0
+term r words c = entry invMdsColumn r c * getD words c 0
 
 -- what the program reads of the lent column is the raw word of the matrix's entry
 coefficient : {column : List ℕ} → column ≡ rawInvColumn → (k : ℕ) → getD column (k % 16) 0 ≡ rawOf (getD invMdsColumn (k % 16) 0)

@@ -9,7 +9,7 @@ use Rattle.numbers.specs.Fill.{Filled}
 use Rattle.numbers.specs.Modulus.{P}
 use Rattle.numbers.proofs.Fill.{filled-none, filled-more, filled-all}
 use Rattle.rounds.specs.Field.{sub}
-use Rattle.rounds.specs.Inverse.{subConstants}
+use Rattle.rounds.specs.Inverse.{subtractConstants}
 use Rattle.rounds.specs.Round.{constant}
 use Rattle.tip5.proofs.LentTables.{constant-read}
 use Rattle.rounds.proofs.RoundLaws.{constant-below}
@@ -67,7 +67,7 @@ loop-again c =
     (c .sub .ensures ∙ ap (sub (getD (s .args .t3) (c .before .before .before .loop .r) 0)) (constant-read (s .pre .0 .0) (s .pre .0 .1) (c .before .before .loop-test .taken)))
 
 returns : tie.Need-returns Inv-loop μ-loop
-unfolding subConstants
+unfolding subtractConstants
 returns c = filled-all (c .before .loop .inv) (omega arith)
 
 pub subtract-constants-spec : {M : Type 1} → statement M

@@ -1,6 +1,6 @@
 -- `permutation::judged` meets its contract.
 -- Assumes nothing.
-use Rattle.tip5.proofs.AnswerLaws.{state-granted, state-refused}
+use Rattle.tip5.proofs.AnswerLaws.{answer-granted, answer-refused, stateAnswer}
 use Rattle.tip5.proofs.JudgeLaws.{accepted-below}
 use mathlib.Core.Path.{sym, _∙_}
 use borrow.Author.Needs.{needs}
@@ -14,13 +14,13 @@ judge-words-requires : tie.Need-judge-words-requires
 judge-words-requires c κs = search needs
 
 returns : tie.Need-returns
-returns c = state-refused _ _ (c .before .judge-words .ensures) (c .if1 .taken)
+returns c = answer-refused stateAnswer _ _ (c .before .judge-words .ensures) (c .if1 .taken)
 
 moved-requires : tie.Need-moved-requires
 moved-requires c κs = (c .before .before .before .pre, accepted-below (c .before .before .before .args .t3) (sym (c .before .judge-words .ensures) ∙ c .if1 .left))
 
 returns-2 : tie.Need-returns-2
-returns-2 c = state-granted _ (c .before .before .judge-words .ensures) (c .before .if1 .left) (c .moved .ensures)
+returns-2 c = answer-granted stateAnswer _ (c .before .before .judge-words .ensures) (c .before .if1 .left) (c .moved .ensures)
 
 pub judged-spec : {M : Type 1} → statement M
 judged-spec =

@@ -6,7 +6,8 @@ use native.Mathlib.Nat.{le-of-lt}
 use native.Mathlib.Omega.{arith}
 use Rattle.tip5.specs.Judge.{wordRefusal}
 use Rattle.tip5.specs.Moves.{roundOf}
-use Rattle.tip5.proofs.AnswerLaws.{round-refused, state-refused}
+use Rattle.tip5.proofs.AnswerLaws.{answer-refused, stateAnswer}
+use Rattle.tip5.proofs.RefusalLaws.{round-refused}
 use Rattle.tip5.proofs.MovesLaws.{answer-round}
 use Rattle.tip5.proofs.permutation.judged_round.Statement.{statement}
 use Rattle.tip5.proofs.permutation.judged_round.Tie as tie
@@ -14,7 +15,7 @@ use Rattle.tip5.proofs.permutation.judged_round.Tie as tie
 returns : tie.Need-returns
 returns c =
     let a = c .before .args in
-    state-refused (roundOf (a .way) (a .round) (a .state)) (a .state) (sym (round-refused (wordRefusal (a .state) ∷ []) (c .if1 .taken))) (λ e. omega arith)
+    answer-refused stateAnswer (roundOf (a .way) (a .round) (a .state)) (a .state) (sym (round-refused (wordRefusal (a .state) ∷ []) (c .if1 .taken))) (λ e. omega arith)
 
 judged-requires : tie.Need-judged-requires
 judged-requires c κs = le-of-lt (c .if1 .left)

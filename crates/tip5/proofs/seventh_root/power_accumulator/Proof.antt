@@ -1,4 +1,4 @@
--- `seventh_root::raised` meets its contract.
+-- `seventh_root::power_accumulator` meets its contract.
 -- Assumes nothing.
 use mathlib.Core.List.{[], _∷_}
 use mathlib.Core.Path.{_≡_, sym}
@@ -10,8 +10,8 @@ use Rattle.numbers.specs.Modulus.{P}
 use Rattle.rounds.specs.Field.{mul, power}
 use Rattle.rounds.proofs.FieldLaws.{power-one}
 use Rattle.tip5.proofs.PowersLaws.{power-word, squared-all, squared-more}
-use Rattle.tip5.proofs.seventh_root.raised.Statement.{statement}
-use Rattle.tip5.proofs.seventh_root.raised.Tie as tie
+use Rattle.tip5.proofs.seventh_root.power_accumulator.Statement.{statement}
+use Rattle.tip5.proofs.seventh_root.power_accumulator.Tie as tie
 
 twice : {n : ℕ} → n < P → (n < P) × (n < P)
 twice h = (h, h)
@@ -103,8 +103,8 @@ returns c =
     let z = squared-all _ (getD b 3 0) all (l .inv .4) (c .mul8 .ensures) in
     λ i. w i ∷ x i ∷ y i ∷ z i ∷ []
 
-pub raised-spec : {M : Type 1} → statement M
-raised-spec =
+pub power-accumulator-spec : {M : Type 1} → statement M
+power-accumulator-spec =
     tie.close
     (tie.spec
     Inv-loop

@@ -1,19 +1,26 @@
--- The first of several refusals: it is none where each is none, and the other way round; an early answer is the first. The refusal of
--- a length.
+-- The first of several refusals: it is none where each is none, and the other way round; an early answer is the first. The
+-- refusals of a length and of a round.
 -- Assumes nothing.
 use mathlib.Core.List.{List, [], _∷_}
 use mathlib.Core.Path.{_≡_, refl, ap, sym, _∙_}
-use Prim.Native.Nat.{ℕ, zero, suc}
+use Prim.Native.Nat.{ℕ, zero, suc, _≤_, _<_}
 use native.Mathlib.Omega.{arith}
-use borrow.Author.Tests.{eq-eqb, eqb-true, ne-eqb}
+use borrow.Author.Tests.{eq-eqb, eqb-true, le-ltb, lt-ltb, ne-eqb}
 use lib.Dec.{eqb}
 use lib.ListN.{length}
 use Rattle.numbers.proofs.Tests.{passed}
 use Rattle.tip5.specs.Judge.{first, lengthRefusal}
-use Rattle.tip5.proofs.AnswerLaws.{first-one}
+use Rattle.tip5.specs.Permutation.{roundRefusal}
+
+pub first-one : (n : ℕ) → first (n ∷ []) ≡ n
+first-one zero = refl
+first-one (suc n) = refl
+
+pub first-past : {n : ℕ} (ns : List ℕ) → n ≡ 0 → first (n ∷ ns) ≡ first ns
+first-past ns e = ap (λ (k : ℕ). first (k ∷ ns)) e
 
 pub first-none : {n : ℕ} (ns : List ℕ) → n ≡ 0 → first ns ≡ 0 → first (n ∷ ns) ≡ 0
-first-none ns e h = ap (λ (k : ℕ). first (k ∷ ns)) e ∙ h
+first-none ns e h = first-past ns e ∙ h
 
 pub none-first : (n : ℕ) (ns : List ℕ) → first (n ∷ ns) ≡ 0 → (n ≡ 0) × (first ns ≡ 0)
 none-first zero ns h = (refl, h)
@@ -26,7 +33,7 @@ first-stops {n = zero} ns e some = absurd (some e)
 first-stops {n = suc n} ns e some = e
 
 pub first-goes-on : {r m n : ℕ} (ns : List ℕ) → m ≡ n → m ≡ 0 → r ≡ first ns → r ≡ first (n ∷ ns)
-first-goes-on ns e none h = h ∙ ap (λ (k : ℕ). first (k ∷ ns)) (sym none ∙ e)
+first-goes-on ns e none h = h ∙ sym (first-past ns (sym e ∙ none))
 
 -- the same of the last refusal
 pub first-ends : {r m n l : ℕ} → m ≡ n → m ≡ 0 → r ≡ l → r ≡ first (n ∷ l ∷ [])
@@ -42,3 +49,15 @@ length-refused {n} ws h = rw (ne-eqb (length ws) n h)
 
 pub accepted-length : (n : ℕ) (ws : List ℕ) → lengthRefusal n ws ≡ 0 → length ws ≡ n
 accepted-length n ws e = eqb-true (length ws) n (passed (eqb (length ws) n) 1 e)
+
+-- what is judged after a length that is right
+pub length-judged : {n : ℕ} (ws : List ℕ) (r : ℕ) → length ws ≡ n → first (lengthRefusal n ws ∷ r ∷ []) ≡ r
+length-judged ws r e = first-past (r ∷ []) (length-accepted ws e) ∙ first-one r
+
+-- Rounds
+
+pub round-accepted : {i : ℕ} (n : ℕ) → i < 5 → first (roundRefusal i ∷ n ∷ []) ≡ n
+round-accepted n h = simp (lt-ltb _ _ h) (first-one n)
+
+pub round-refused : {i : ℕ} (ns : List ℕ) → 5 ≤ i → first (roundRefusal i ∷ ns) ≡ 8
+round-refused ns h = simp (le-ltb _ _ h)
