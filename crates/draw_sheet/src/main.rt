@@ -14,7 +14,7 @@ fn write_line(line: &[u8; 65536], count: usize) {
     write_front(line, count);
 }
 
-// The count is never more than there is.
+// The first `count` bytes. A line is never longer than the array, so the test always passes.
 fn write_front(bytes: &[u8], count: usize) {
     if count <= bytes.len() {
         io::write_all(1, &bytes[..count]);

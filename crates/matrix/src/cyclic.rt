@@ -7,7 +7,7 @@ ghost use Prim.Native.Nat.{_^_};
 ghost use Rattle.numbers.specs.Linear.{times};
 ghost use Rattle.matrix.specs.Parts.{cyclicMatrix};
 
-// node_152, 154, 156, 158, 153, 155, 157, 159. A pair is the sum of two products, a part a longer
+// Answers node_152, 154, 156, 158, 153, 155, 157, 159. A pair is the sum of two products, a part a longer
 // sum; each stands inside nodes of the Rust function, and is named after the first node in it.
 pub(crate) fn cyclic(sums: [u64; 8]) -> [u64; 8]
     ensures { λ r. ⌜ r ≡ times (2 ^ 64) cyclicMatrix sums ⌝ }

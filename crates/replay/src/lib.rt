@@ -22,7 +22,7 @@ pub fn differ(a: &[u64], b: &[u64]) -> u64
     0
 }
 
-// So many words from a place on, or all words where there are not so many.
+// `length` words from place `at` on, or all words where there are fewer.
 pub fn part(words: &[u64], at: usize, length: usize) -> &[u64]
     ensures { λ r. ⌜ now r ≡ partOf (now (words .entry)) at length ⌝ }
 {

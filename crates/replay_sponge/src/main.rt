@@ -6,6 +6,7 @@ mod vectors;
 
 // Case i of a group: 1 where the answer differs, otherwise 0.
 fn difference(group: u64, i: usize) -> u64 {
+    // No group has so many cases: the bound keeps the places from wrapping.
     if 1000 < i {
         return 1;
     }

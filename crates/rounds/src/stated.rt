@@ -1,5 +1,5 @@
-// What the tables are. Nothing calls these functions: a constant has no contract, so each says by its
-// own what one is, entry by entry.
+// What the tables are. Nothing calls these functions: a constant has no contract, so each function
+// says by its own what one table is, entry by entry.
 use crate::inverse_tables;
 use crate::tables;
 ghost use mathlib.Core.Path.{_≡_};

@@ -1,4 +1,4 @@
--- The column view in a walk: its type, its machine value, and what it owns beside what its parts own.
+-- The column view in a walk: its type, its machine value, and that it owns what its parts own.
 -- Assumes nothing.
 use mathlib.Core.Path.{_≡_}
 use mathlib.Core.List.{List, [], _∷_}

@@ -35,7 +35,7 @@ fn entry_word(words: &[u64], shape: Shape, column: usize, row: usize, part: usiz
     answer.word
 }
 
-// So many words of a row from word `at` on, then zeros. Word k is part k % width of column k / width.
+// n words of a row from word `at` on, then zeros. Word k is part k % width of column k / width.
 fn row_part(words: &[u64], shape: Shape, row: usize, at: usize, n: usize) -> [u64; 10]
     requires { ⌜ Table (now words) shape ⌝ }
     requires { ⌜ (row < shape .rows) × (n ≤ 10) × (at + n ≤ shape .columns * shape .width) ⌝ }

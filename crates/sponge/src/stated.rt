@@ -1,5 +1,5 @@
 // What the public constants are. Nothing calls these functions: a constant has no contract, so each
-// says by its own what one is.
+// function says by its own what one constant is.
 ghost use mathlib.Core.Path.{_≡_};
 
 fn rate_is() -> usize

@@ -49,7 +49,7 @@ fn answered(way: Way, which: usize, state: [u64; 16]) -> StateAnswer
     }
 }
 
-// The sixteen words of a slice, and sixteen words put into one.
+// The sixteen words of a slice.
 fn sixteen(words: &[u64]) -> [u64; 16]
     requires { ⌜ length (now words) ≡ 16 ⌝ }
     ensures { λ r. ⌜ r ≡ now (words .entry) ⌝ }
@@ -63,6 +63,7 @@ fn sixteen(words: &[u64]) -> [u64; 16]
     out
 }
 
+// Sixteen words put into a slice.
 fn put(words: &mut [u64], state: [u64; 16])
     requires { ⌜ length (now words) ≡ 16 ⌝ }
     ensures { λ r. ⌜ now (words .exit) ≡ state ⌝ }

@@ -1,5 +1,5 @@
-// The field on raw words that are known to be below P. Nothing is judged here, so nothing here is
-// public: the calls of b_field_element and the rounds judge before they call.
+// The field on raw words. Most of it asks for words below P and nothing is judged here, so nothing
+// here is public: the calls of b_field_element and the rounds judge before they call.
 use crate::b_field_element::BFieldElement;
 ghost use mathlib.Core.Path.{_≡_};
 ghost use Prim.Native.Nat.{_+_, _-_, _*_, _%_, _^_, _<_, _≤_};

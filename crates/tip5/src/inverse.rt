@@ -49,7 +49,8 @@ fn five_inv_rounds_with(
     inv_round_with(table, column, constants, 0, s1)
 }
 
-// Round 0 to 4 undone or, for 5, all five. The tables are laid out here and nowhere else.
+// Round 0 to 4 undone or, for 5, all five. The tables of the way back are laid out in this function
+// alone.
 pub(crate) fn inv_rounds_of(which: usize, state: [u64; 16]) -> [u64; 16]
     requires { ⌜ (which ≤ 5) × Below state ⌝ }
     ensures { λ r. ⌜ r ≡ moved Way.Back which state ⌝ }

@@ -68,7 +68,7 @@ fn four_of(s: [u64; 16], i: usize) -> [u64; 4]
     [s[i], s[i + 1], s[i + 2], s[i + 3]]
 }
 
-// Where the words before i are done: also words i to i + 3, which are roots.
+// Words i to i + 3 by roots, put behind the words before i, which are done.
 fn put_roots(out: [u64; 16], s: [u64; 16], i: usize) -> [u64; 16]
     requires { ⌜ (4 ≤ i) × (i ≤ 12) × Below s ⌝ }
     requires { ⌜ Filled 16 (λ k. invSbox k (getD s k 0)) i out ⌝ }

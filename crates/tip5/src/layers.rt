@@ -22,7 +22,7 @@ fn wide(byte: u8) -> u64
     byte as u64
 }
 
-// Byte k of a word, looked up in a table of 256 bytes.
+// A byte, looked up in a table of 256 bytes.
 fn looked_up(table: &[u8; 256], byte: u64) -> u64
     requires { ⌜ byte < 256 ⌝ }
     ensures { λ r. ⌜ (r ≡ getD (now (table .entry)) byte 0) × (r < 256) ⌝ }

@@ -49,7 +49,7 @@ fn five_rounds_with(table: &[u8; 256], constants: &[u64; 80], state: [u64; 16]) 
     round_with(table, constants, 4, s4)
 }
 
-// Round 0 to 4 or, for 5, all five. The tables are laid out here and nowhere else.
+// Round 0 to 4 or, for 5, all five. The tables of this way are laid out in this function alone.
 fn rounds_of(which: usize, state: [u64; 16]) -> [u64; 16]
     requires { ⌜ (which ≤ 5) × Below state ⌝ }
     ensures { λ r. ⌜ r ≡ Moves.moved Way.Forth which state ⌝ }
@@ -62,6 +62,7 @@ fn rounds_of(which: usize, state: [u64; 16]) -> [u64; 16]
     round_with(&table, &constants, which, state)
 }
 
+// Round 0 to 4 or, for 5, all five, forth or back.
 fn moved(way: Way, which: usize, state: [u64; 16]) -> [u64; 16]
     requires { ⌜ (which ≤ 5) × Below state ⌝ }
     ensures { λ r. ⌜ r ≡ Moves.moved way which state ⌝ }
@@ -72,7 +73,7 @@ fn moved(way: Way, which: usize, state: [u64; 16]) -> [u64; 16]
     }
 }
 
-// The same once the words are judged.
+// The same, once the words are judged.
 pub(crate) fn judged(way: Way, which: usize, state: [u64; 16]) -> StateAnswer
     requires { ⌜ which ≤ 5 ⌝ }
     ensures { λ r. ⌜ r ≡ movedAnswer way which state ⌝ }

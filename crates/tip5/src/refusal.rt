@@ -9,7 +9,7 @@ pub const WRONG_LENGTH: u8 = 2;
 pub const BAD_BOUND: u8 = 3;
 // A sheet that is shorter than its header, or not as long as its header says.
 pub const WRONG_SHEET_LENGTH: u8 = 4;
-// A sheet whose header says what no sheet's does.
+// A sheet of another version or job, or with too many elements.
 pub const BAD_HEADER: u8 = 5;
 // The allowance is spent, and indices are missing.
 pub const ALLOWANCE_SPENT: u8 = 6;

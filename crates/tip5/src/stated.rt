@@ -1,5 +1,5 @@
 // What the public constants are. Nothing calls these functions: a constant has no contract, so each
-// says by its own what one is.
+// function says by its own what one constant is.
 use crate::b_field_element::BFieldElement;
 use crate::refusal;
 ghost use mathlib.Core.Path.{_≡_};
