@@ -38,7 +38,17 @@ need_archives() { # NAME...
     export VARDRAKUP_ARCHIVES
 }
 
-# The same for the machine at hand, for what has to be linked with Rust.
+# The same with no proof, in seconds.
+need_unproved_archives() { # NAME...
+    [ -z "${VARDRAKUP_ARCHIVES:-}" ] || return 0
+    for name in "$@"; do
+        is_newest "$root/target/unproved/lib$name.a" || "$here/unproved-archive" "$name"
+    done
+    VARDRAKUP_ARCHIVES=$root/target/unproved
+    export VARDRAKUP_ARCHIVES
+}
+
+# The proved ones for the machine at hand, for what has to be linked with Rust.
 need_native_archives() { # NAME...
     if [ -z "${VARDRAKUP_ARCHIVES:-}" ] && [ "$(uname -m)" != x86_64 ]; then
         for name in "$@"; do
