@@ -32,6 +32,7 @@ need_archives() { # NAME...
     for name in "$@"; do
         is_newest "$root/target/staticlib/lib$name.a" && continue
         log=$root/target/log/staticlib-$name
+        echo "proving and building lib$name.a, which takes some minutes the first time" >&2
         (cd "$root" && rt staticlib "$name") >"$log" 2>&1 || { cat "$log" && exit 1; }
     done
     VARDRAKUP_ARCHIVES=$root/target/staticlib
