@@ -32,13 +32,24 @@ need_archives() { # NAME...
     for name in "$@"; do
         is_newest "$root/target/staticlib/lib$name.a" && continue
         log=$root/target/log/staticlib-$name
+        echo "proving and building lib$name.a, which takes some minutes the first time" >&2
         (cd "$root" && rt staticlib "$name") >"$log" 2>&1 || { cat "$log" && exit 1; }
     done
     VARDRAKUP_ARCHIVES=$root/target/staticlib
     export VARDRAKUP_ARCHIVES
 }
 
-# The same for the machine at hand, for what has to be linked with Rust.
+# The same with no proof, in seconds.
+need_unproved_archives() { # NAME...
+    [ -z "${VARDRAKUP_ARCHIVES:-}" ] || return 0
+    for name in "$@"; do
+        is_newest "$root/target/unproved/lib$name.a" || "$here/unproved-archive" "$name"
+    done
+    VARDRAKUP_ARCHIVES=$root/target/unproved
+    export VARDRAKUP_ARCHIVES
+}
+
+# The proved ones for the machine at hand, for what has to be linked with Rust.
 need_native_archives() { # NAME...
     if [ -z "${VARDRAKUP_ARCHIVES:-}" ] && [ "$(uname -m)" != x86_64 ]; then
         for name in "$@"; do
