@@ -1,20 +1,18 @@
-// What an accepted sheet gives: its words, the line of its digest, the line of its draw.
-use crate::elements;
-use crate::line::digest_line;
-use crate::line::draw_line;
-use crate::line::refused_line;
+// What the words of an accepted sheet give: the line of their digest, the line of a draw.
 use draws::DrawAnswer;
 use draws::sample_indices;
+use lines::digest_line;
+use lines::draw_line;
+use lines::refused_line;
 use sponge::Tip5;
 use sponge::by_value::pad_and_absorb_all;
 use tip5::b_field_element::BFieldElement;
 use tip5::refusal;
-ghost use mathlib.Core.List.{_++_, map};
+ghost use mathlib.Core.List.{map};
 ghost use mathlib.Core.Path.{_≡_};
-ghost use Prim.Native.Nat.{ℕ, _+_, _*_, _^_, _≤_, _<_};
-ghost use lib.ListN.{drop, getD, length};
+ghost use Prim.Native.Nat.{ℕ, _^_, _≤_, _<_};
+ghost use lib.ListN.{getD, length};
 ghost use Rattle.numbers.specs.Modulus.{P};
-ghost use Rattle.sheet.specs.Sheet.{wordsOf};
 ghost use Rattle.draws.specs.Draw.{draw};
 ghost use Rattle.answers.specs.Answer.{drawnLine, seededBy};
 ghost use Rattle.answers.specs.Drawn.{Drawn};
@@ -23,18 +21,6 @@ ghost use Rattle.lines.specs.Put.{Front};
 ghost use Rattle.sponge.specs.Digest.{digestOf};
 ghost use Rattle.tip5.specs.Field.{valueOf};
 ghost use Rattle.tip5.specs.Judge.{unless, wordRefusal};
-
-// The raw words of the first n elements, at the front of a buffer.
-fn put_words(sheet: &[u8], n: usize, words: &mut [u64])
-    requires { ⌜ (6 + 8 * n ≤ length (now sheet)) × (n ≤ length (now words)) ⌝ }
-    ensures { λ r. ⌜ now (words .exit) ≡ wordsOf n (now (sheet .entry)) ++ drop n (now (words .entry)) ⌝ }
-{
-    let mut i = 0;
-    while i < n {
-        words[i] = elements::word(sheet, i);
-        i += 1;
-    }
-}
 
 // The values of five raw words.
 fn values(digest: [u64; 5]) -> [u64; 5]
@@ -62,14 +48,12 @@ fn digest_values(words: &[u64]) -> [u64; 5]
     values(digest)
 }
 
-// The line of a digest sheet of n elements.
-pub(crate) fn digest_sheet(sheet: &[u8], n: usize, out: &mut [u8; 65536]) -> usize
-    requires { ⌜ (length (now sheet) ≡ 6 + 8 * n) × (n ≤ 8191) ⌝ }
-    ensures { λ r. ⌜ Front (now (out .entry)) (digestLine (map valueOf (digestOf (wordsOf n (now (sheet .entry)))))) (now (out .exit)) r ⌝ }
+// The line of a digest sheet.
+pub(crate) fn digest_sheet(words: &[u64], out: &mut [u8; 65536]) -> usize
+    requires { ⌜ wordRefusal (now words) ≡ 0 ⌝ }
+    ensures { λ r. ⌜ Front (now (out .entry)) (digestLine (map valueOf (digestOf (now (words .entry))))) (now (out .exit)) r ⌝ }
 {
-    let mut words = [0u64; 8192];
-    put_words(sheet, n, &mut words);
-    let values = digest_values(&words[..n]);
+    let values = digest_values(words);
     digest_line(&values, out)
 }
 
@@ -118,21 +102,17 @@ fn draw_with(
     drawn_line(answer, indices, out)
 }
 
-// The line of a draw sheet: n elements, the log2 of the bound, the indices wanted, the allowance.
+// The line of a draw sheet: its words, the log2 of the bound, the indices wanted, the allowance.
 pub(crate) fn draw_sheet(
-    sheet: &[u8],
-    n: usize,
+    words: &[u64],
     log2: u32,
     wanted: usize,
     allowance: u64,
     out: &mut [u8; 65536],
 ) -> usize
-    requires { ⌜ (length (now sheet) ≡ 6 + 8 * n) × (n ≤ 8191) ⌝ }
-    requires { ⌜ (log2 < 32) × (wanted ≤ 4095) ⌝ }
-    ensures { λ r. ⌜ Front (now (out .entry)) (drawnLine wanted (draw (2 ^ log2) allowance wanted (seededBy (wordsOf n (now (sheet .entry)))))) (now (out .exit)) r ⌝ }
+    requires { ⌜ (wordRefusal (now words) ≡ 0) × (log2 < 32) × (wanted ≤ 4095) ⌝ }
+    ensures { λ r. ⌜ Front (now (out .entry)) (drawnLine wanted (draw (2 ^ log2) allowance wanted (seededBy (now (words .entry))))) (now (out .exit)) r ⌝ }
 {
-    let mut words = [0u64; 8192];
-    put_words(sheet, n, &mut words);
     let mut indices = [0u32; 4095];
-    draw_with(&words[..n], log2, allowance, &mut indices[..wanted], out)
+    draw_with(words, log2, allowance, &mut indices[..wanted], out)
 }

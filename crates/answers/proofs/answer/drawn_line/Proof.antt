@@ -1,8 +1,9 @@
 -- `answer::drawn_line` meets its contract.
 -- Assumes nothing.
-use mathlib.Core.Path.{sym}
+use mathlib.Core.Path.{sym, _∙_}
 use Rattle.tip5.proofs.AnswerLaws.{unless-granted, unless-refused}
 use Rattle.lines.specs.Line.{drawLine, refusedLine}
+use Rattle.lines.proofs.LineLaws.{draw-bounded}
 use Rattle.lines.proofs.PutLaws.{front-same}
 use borrow.Author.Needs.{needs}
 use Rattle.answers.proofs.answer.drawn_line.Statement.{statement}
@@ -25,7 +26,8 @@ returns-2 : tie.Need-returns-2
 returns-2 c =
     let start = c .before .before .before .before in
     front-same
-    (sym (unless-granted (drawLine (start .args .answer .squeezes) (start .args .indices .now)) (refusedLine (start .args .answer .refusal)) (c .before .before .if1 .left)))
+    (draw-bounded (start .args .answer .squeezes) (start .args .indices .now) (start .pre)
+    ∙ sym (unless-granted (drawLine (start .args .answer .squeezes) (start .args .indices .now)) (refusedLine (start .args .answer .refusal)) (c .before .before .if1 .left)))
     (c .draw-line .ensures)
 
 pub drawn-line-spec : {M : Type 1} → statement M
