@@ -5,7 +5,7 @@ fn main() {
     let mut sheet = io::large_buffer();
     let read = io::read_full(0, &mut sheet);
     let mut line = io::large_buffer();
-    let count = sheet::sheet_line::sheet_line(&sheet[..read], &mut line);
+    let count = answers::sheet_line::sheet_line(&sheet[..read], &mut line);
     write_line(&line, count);
 }
 

@@ -1,10 +1,6 @@
 -- The laws of this crate's definitions.
 pub mod Accepted
 pub mod BitLaws
-mod DrawnLaws
 pub mod JudgeLaws
-pub mod LineLaws
-pub mod PutLaws
-mod SheetLineLaws
+pub mod JudgedLaws
 pub mod Tabs
-mod WordsLaws

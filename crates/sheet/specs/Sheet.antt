@@ -1,6 +1,6 @@
 -- A sheet's header and elements, and which sheets are accepted.
 use mathlib.Core.Bool.{cond}
-use mathlib.Core.List.{List, [], _∷_}
+use mathlib.Core.List.{List, [], _∷_, _++_}
 use Prim.Native.Nat.{ℕ, _+_, _*_}
 use lib.Dec.{eqb, leb, ltb}
 use lib.ListN.{length, take, drop}
@@ -89,3 +89,11 @@ readHeader sheet = headerUnless (shortRefusal sheet) sheet
 -- the header of an accepted sheet
 abbrev pub judgeSheet : (sheet : List ℕ) → HeaderAnswer
 judgeSheet sheet = headerUnless (sheetRefusal sheet) sheet
+
+-- the raw words of all elements in front of a list, and what stood after them as it was
+abbrev pub elementsInFront : (sheet words : List ℕ) → List ℕ
+elementsInFront sheet words = wordsOf (headerOf sheet .elements) sheet ++ drop (headerOf sheet .elements) words
+
+-- a list that an accepted sheet's words were put in front of; a refused sheet leaves it
+unfoldable pub readWords : (sheet words : List ℕ) → List ℕ
+readWords sheet words = unless (sheetRefusal sheet) (elementsInFront sheet words) words

@@ -1,9 +1,6 @@
-// The draw sheet: its header, its judging, its elements and the lines that it gives.
-mod answer;
+// The draw sheet: its header, its judging and its elements.
 mod bits;
 mod elements;
 pub mod header;
 pub mod judge;
-pub mod line;
-mod put;
-pub mod sheet_line;
+pub mod read;

@@ -1,0 +1,3 @@
+-- What the calls of this crate write.
+pub mod Line
+pub mod Put
