@@ -1,4 +1,4 @@
--- The refusals of a sheet in their order: what has been found so far decides the answer of `judge_sheet`.
+-- The refusals of a sheet in their order: what has been found so far decides the answers of `judge_past_header` and `judge_sheet`.
 -- Assumes nothing.
 use mathlib.Core.Path.{_≡_, refl, sym, ap, _∙_}
 use mathlib.Core.List.{List, [], _∷_}
@@ -6,6 +6,7 @@ use Prim.Native.Nat.{ℕ, zero, suc, _+_, _*_, _^_, _<_}
 use borrow.Author.Tests.{eq-eqb, ne-eqb}
 use lib.ListN.{length, take, drop}
 use Rattle.tip5.specs.Judge.{first}
+use Rattle.tip5.proofs.AnswerLaws.{first-one}
 use Rattle.sheet.specs.declared.header.Header.{Header}
 use Rattle.sheet.specs.declared.header.HeaderAnswer.{HeaderAnswer}
 use Rattle.sheet.specs.Sheet.{
@@ -68,29 +69,29 @@ module _ (sheet : List ℕ) (a : HeaderAnswer) (read : a ≡ readHeader sheet) w
         first-past (drop 1 (refusals (headerOf sheet) sheet)) (sym short ∙ whole)
         ∙ ap (λ (h : Header). first (drop 1 (refusals h sheet))) (sym header-read)
 
-    -- a header that is refused
-    pub judged-fields : (fieldRefusal (a .header) ≡ 0 → ⊥) → refusedSheet (fieldRefusal (a .header)) ≡ judgeSheet sheet
-    judged-fields h = judged-refused sheet (past-short ∙ first-here (drop 2 (refusals (a .header) sheet)) h) h
+    -- a sheet that one of them refuses
+    pub judged-past : {n : ℕ} → n ≡ first (drop 1 (refusals (a .header) sheet)) → (n ≡ 0 → ⊥) → refusedSheet n ≡ judgeSheet sheet
+    judged-past e h = judged-refused sheet (past-short ∙ sym e) h
 
-    module _ (good : fieldRefusal (a .header) ≡ 0) where
-      -- with good fields, the length and the values decide
-      past-fields : sheetRefusal sheet ≡ first (drop 2 (refusals (a .header) sheet))
-      past-fields = past-short ∙ first-past (drop 2 (refusals (a .header) sheet)) good
+    -- an accepted sheet
+    pub judged-good : {n : ℕ} → n ≡ first (drop 1 (refusals (a .header) sheet)) → n ≡ 0 → a ≡ judgeSheet sheet
+    judged-good e z = read ∙ ap (λ (n : ℕ). headerUnless n sheet) (sym short ∙ whole) ∙ judged sheet (past-short ∙ sym e ∙ z)
 
-      -- a sheet of another length than its header says
-      pub judged-length : (length sheet ≡ 6 + 8 * a .header .elements → ⊥) → refusedSheet 4 ≡ judgeSheet sheet
-      judged-length h = judged sheet (past-fields ∙ simp (ne-eqb _ _ h))
+-- those other refusals, in their order
+module _ (h : Header) (sheet : List ℕ) where
+  -- a header that is refused
+  pub past-refused : (fieldRefusal h ≡ 0 → ⊥) → fieldRefusal h ≡ first (drop 1 (refusals h sheet))
+  past-refused bad = sym (first-here (drop 2 (refusals h sheet)) bad)
 
-      module _ (exact : length sheet ≡ 6 + 8 * a .header .elements) where
-        -- with the right length, the values decide
-        past-length : sheetRefusal sheet ≡ first (drop 3 (refusals (a .header) sheet))
-        past-length = past-fields ∙ simp (eq-eqb _ _ exact)
+  module _ (good : fieldRefusal h ≡ 0) where
+    -- with good fields, the length and the values decide
+    past-fields : first (drop 1 (refusals h sheet)) ≡ first (drop 2 (refusals h sheet))
+    past-fields = first-past (drop 2 (refusals h sheet)) good
 
-        -- a sheet with a value of P or more
-        pub judged-values : (valueRefusal (a .header .elements) sheet ≡ 0 → ⊥)
-            → refusedSheet (valueRefusal (a .header .elements) sheet) ≡ judgeSheet sheet
-        judged-values h = judged-refused sheet (past-length ∙ first-here [] h) h
+    -- a sheet of another length than its header says
+    pub past-other-length : (length sheet ≡ 6 + 8 * h .elements → ⊥) → 4 ≡ first (drop 1 (refusals h sheet))
+    past-other-length other = sym (past-fields ∙ simp (ne-eqb _ _ other))
 
-        -- an accepted sheet
-        pub judged-good : valueRefusal (a .header .elements) sheet ≡ 0 → a ≡ judgeSheet sheet
-        judged-good e = read ∙ ap (λ (n : ℕ). headerUnless n sheet) (sym short ∙ whole) ∙ judged sheet (past-length ∙ first-past [] e)
+    -- with the right length, the values decide
+    pub past-length : length sheet ≡ 6 + 8 * h .elements → valueRefusal (h .elements) sheet ≡ first (drop 1 (refusals h sheet))
+    past-length exact = sym (past-fields ∙ simp (eq-eqb _ _ exact) (first-one (valueRefusal (h .elements) sheet)))
