@@ -10,8 +10,8 @@ use tip5::b_field_element::BFieldElement;
 use tip5::refusal;
 ghost use mathlib.Core.List.{map};
 ghost use mathlib.Core.Path.{_≡_};
-ghost use Prim.Native.Nat.{ℕ, _^_, _≤_, _<_};
-ghost use lib.ListN.{getD, length};
+ghost use Prim.Native.Nat.{_^_, _≤_, _<_};
+ghost use lib.ListN.{length};
 ghost use Rattle.numbers.specs.Modulus.{P};
 ghost use Rattle.draws.specs.Draw.{draw};
 ghost use Rattle.answers.specs.Answer.{drawnLine, seededBy};
@@ -22,6 +22,16 @@ ghost use Rattle.sponge.specs.Digest.{digestOf};
 ghost use Rattle.rounds.specs.Field.{Below, valueOf};
 ghost use Rattle.tip5.specs.Judge.{unless, wordRefusal};
 
+// The value of a raw word.
+fn value(word: u64) -> u64
+    requires { ⌜ word < P ⌝ }
+    ensures { λ r. ⌜ r ≡ valueOf word ⌝ }
+{
+    let answer = BFieldElement(word).value();
+    let value = answer.value;
+    value.0
+}
+
 // The values of five raw words.
 fn values(digest: [u64; 5]) -> [u64; 5]
     requires { ⌜ Below digest ⌝ }
@@ -30,9 +40,7 @@ fn values(digest: [u64; 5]) -> [u64; 5]
     let mut out = digest;
     let mut i = 0;
     while i < 5 {
-        let answer = BFieldElement(digest[i]).value();
-        let value = answer.value;
-        out[i] = value.0;
+        out[i] = value(digest[i]);
         i += 1;
     }
     out

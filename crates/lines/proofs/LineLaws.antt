@@ -12,20 +12,7 @@ use borrow.Author.Tests.{le-leb, le-ltb, lt-leb, lt-ltb}
 use lib.Dec.{lit<, lit≤}
 use lib.ListN.{length, drop, getD, length-append, drop-of-length-le}
 use lib.Seq.{drop-cons}
-use Rattle.lines.specs.Line.{
-  boundedDrawLine,
-  decimal,
-  decimalWithin,
-  digit,
-  drawLine,
-  indexLimit,
-  joined,
-  line,
-  newline,
-  separated,
-  space,
-  spaced,
-}
+use Rattle.lines.specs.Line.{boundedDrawLine, decimal, decimalWithin, digit, drawLine, indexLimit, joined, line, newline, separated, space, spaced}
 
 -- Decimal numbers
 

@@ -1,7 +1,7 @@
 -- The laws of a list that is made by a function of its places, and of sums over a range.
 -- Assumes nothing.
 use mathlib.Core.Path.{_≡_, refl, sym, ap, ap₂, _∙_}
-use mathlib.Core.List.{List, _∷_}
+use mathlib.Core.List.{List, [], _∷_, _++_}
 use Prim.Native.Nat.{ℕ, zero, suc, _+_, _-_, _*_, _≤_, _<_, zero-le}
 use native.Mathlib.Nat.{add-suc, add-zero, le-of-suc-le-suc, le-refl, mul-add, mul-comm, mul-zero, not-suc-le-zero, suc-add, zero-add}
 use native.Mathlib.Numerals.{add-one}
@@ -48,6 +48,24 @@ tab-unique xs {n} f e h =
 -- so every list is made by the function that reads its entries
 pub tab-getD : (xs : List ℕ) {n : ℕ} → length xs ≡ n → tab n 0 (λ k. getD xs k 0) ≡ xs
 tab-getD xs e = tab-unique xs (λ k. getD xs k 0) e λ k h. refl
+
+-- what is left of a list as a loop over it goes on: the next entry, and what is left then
+pub tab-next : (n i : ℕ) (f : ℕ → ℕ) → i < n → tab (n - i) i f ≡ f i ∷ tab (n - (i + 1)) (i + 1) f
+tab-next n i f h =
+    let e : n - i ≡ suc (n - (i + 1)) = omega arith in
+    ap (λ (k : ℕ). tab k i f) e ∙ ap (λ (k : ℕ). f i ∷ tab (n - (i + 1)) k f) (sym (add-one i))
+
+-- nothing is left at its end
+pub tab-none : (n i : ℕ) (f : ℕ → ℕ) → n ≤ i → tab (n - i) i f ≡ []
+tab-none n i f h =
+    let e : n - i ≡ 0 = omega arith in
+    ap (λ (k : ℕ). tab k i f) e
+
+-- one entry more, at the end
+pub tab-snoc : (n i : ℕ) (f : ℕ → ℕ) → tab (suc n) i f ≡ tab n i f ++ (f (i + n) ∷ [])
+tab-snoc zero i f = ap (λ (k : ℕ). f k ∷ []) (sym (add-zero i))
+tab-snoc (suc n) i f =
+    ap (λ (l : List ℕ). f i ∷ l) (tab-snoc n (suc i) f ∙ ap (λ (k : ℕ). tab n (suc i) f ++ (f k ∷ [])) (suc-add i n ∙ sym (add-suc i n)))
 
 -- Sums
 

@@ -1,20 +1,19 @@
 -- What is known of a sheet that is accepted, and of its words.
 -- Assumes nothing.
-use mathlib.Core.Path.{_≡_, refl}
-use mathlib.Core.List.{List, [], _∷_}
-use Prim.Native.Nat.{ℕ, zero, suc, _+_, _*_, _≤_, _<_}
-use native.Mathlib.Omega.{arith}
+use mathlib.Core.Path.{_≡_}
+use mathlib.Core.List.{List}
+use Prim.Native.Nat.{ℕ, _+_, _*_, _≤_, _<_}
 use borrow.Author.Tests.{eqb-true, leb-true, ltb-true}
-use lib.Dec.{eqb, leb, lit<, ltb}
-use lib.ListN.{length, getD}
+use lib.Dec.{eqb, leb, ltb}
+use lib.ListN.{length}
 use Rattle.numbers.specs.Lists.{tab}
-use Rattle.numbers.specs.Modulus.{P}
-use Rattle.numbers.proofs.Lists.{getD-tab-all}
 use Rattle.numbers.proofs.Tests.{passed}
 use Rattle.rounds.specs.Field.{rawOf}
-use Rattle.tip5.specs.Judge.{first, wordRefusal}
+use Rattle.tip5.specs.Judge.{wordRefusal}
 use Rattle.rounds.proofs.FieldLaws.{rawOf-below}
+use Rattle.rounds.proofs.RoundLaws.{tab-below}
 use Rattle.tip5.proofs.JudgeLaws.{below-accepted}
+use Rattle.tip5.proofs.RefusalLaws.{none-refuses}
 use Rattle.sheet.specs.Sheet.{elementLimit, fieldRefusals, headerOf, refusals, sheetRefusal, value, valueRefusal, wordsOf}
 
 -- what each refusal that did not come says
@@ -24,13 +23,6 @@ pub record Accepted (sheet : List ℕ) : Type 0 where
   pub limit : headerOf sheet .elements ≤ elementLimit
   pub exact : length sheet ≡ 6 + 8 * headerOf sheet .elements
   pub values : valueRefusal (headerOf sheet .elements) sheet ≡ 0
-
--- where no refusal comes first, there is none
-none-refuses : (ns : List ℕ) → first ns ≡ 0 → (k : ℕ) → getD ns k 0 ≡ 0
-none-refuses [] e k = refl
-none-refuses (zero ∷ ns) e zero = refl
-none-refuses (zero ∷ ns) e (suc k) = none-refuses ns e k
-none-refuses (suc n ∷ ns) e k = absurd (omega arith)
 
 -- a sheet that is not refused
 pub accepted : (sheet : List ℕ) → sheetRefusal sheet ≡ 0 → Accepted sheet
@@ -51,4 +43,4 @@ pub words-good : (n : ℕ) (sheet : List ℕ) → wordRefusal (wordsOf n sheet) 
 unfolding wordsOf
 words-good n sheet =
     below-accepted (tab n 0 (λ i. rawOf (value sheet i)))
-    (getD-tab-all (λ w. w < P) n 0 (λ i. rawOf (value sheet i)) (lit< tt) (λ i. rawOf-below (value sheet i)))
+    (tab-below n 0 λ i. rawOf-below (value sheet i))

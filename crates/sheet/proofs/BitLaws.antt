@@ -3,19 +3,7 @@
 use mathlib.Core.Path.{_≡_, sym, ap, _∙_}
 use mathlib.Core.List.{List, [], _∷_, _++_}
 use Prim.Native.Nat.{ℕ, _+_, _*_, _^_, _≤_, _<_}
-use native.Mathlib.Nat.{
-  add-assoc,
-  add-mul,
-  add-zero,
-  lt-of-lt-of-le,
-  mod-lt,
-  mul-assoc,
-  mul-one,
-  pow-le-pow-right,
-  pow-suc,
-  zero-mul,
-  zero-add,
-}
+use native.Mathlib.Nat.{add-assoc, add-mul, add-zero, lt-of-lt-of-le, mod-lt, mul-assoc, mul-one, pow-le-pow-right, pow-suc, zero-mul, zero-add}
 use native.Mathlib.Numerals.{add-one}
 use lib.Arith.{digits-lt}
 use lib.Dec.{lit<}

@@ -1,35 +1,16 @@
--- The refusals of a sheet in their order: what has been found so far decides the answer of `judge_sheet`.
+-- The refusals of a sheet in their order: what has been found so far decides the answers of `judge_past_header` and `judge_sheet`.
 -- Assumes nothing.
 use mathlib.Core.Path.{_≡_, refl, sym, ap, _∙_}
-use mathlib.Core.List.{List, [], _∷_}
+use mathlib.Core.List.{List}
 use Prim.Native.Nat.{ℕ, zero, suc, _+_, _*_, _^_, _<_}
 use borrow.Author.Tests.{eq-eqb, ne-eqb}
 use lib.ListN.{length, take, drop}
 use Rattle.tip5.specs.Judge.{first}
+use Rattle.tip5.proofs.RefusalLaws.{first-one, first-past, first-stops}
 use Rattle.sheet.specs.declared.header.Header.{Header}
 use Rattle.sheet.specs.declared.header.HeaderAnswer.{HeaderAnswer}
-use Rattle.sheet.specs.Sheet.{
-  fieldRefusal,
-  headerOf,
-  headerUnless,
-  judgeSheet,
-  readHeader,
-  refusals,
-  refusedSheet,
-  sheetRefusal,
-  shortRefusal,
-  valueRefusal,
-}
+use Rattle.sheet.specs.Sheet.{fieldRefusal, headerOf, headerUnless, judgeSheet, readHeader, refusals, refusedSheet, sheetRefusal, shortRefusal, valueRefusal}
 use Rattle.sheet.proofs.BitLaws.{field-below}
-
--- a refusal that is not 0 is the first
-first-here : {n : ℕ} (ns : List ℕ) → (n ≡ 0 → ⊥) → first (n ∷ ns) ≡ n
-first-here {n = zero} ns h = absurd (h refl)
-first-here {n = suc n} ns h = refl
-
--- a 0 is passed over
-first-past : {n : ℕ} (ns : List ℕ) → n ≡ 0 → first (n ∷ ns) ≡ first ns
-first-past ns e = ap (λ (n : ℕ). first (n ∷ ns)) e
 
 -- the answer by the sheet's refusal
 judged : (sheet : List ℕ) {n : ℕ} → sheetRefusal sheet ≡ n → headerUnless n sheet ≡ judgeSheet sheet
@@ -48,7 +29,7 @@ module _ (sheet : List ℕ) (a : HeaderAnswer) (read : a ≡ readHeader sheet) w
 
   -- a sheet without a header
   pub judged-short : (a .refusal ≡ 0 → ⊥) → a ≡ judgeSheet sheet
-  judged-short h = read ∙ judged sheet (first-here (drop 1 (refusals (headerOf sheet) sheet)) λ e. h (short ∙ e))
+  judged-short h = read ∙ judged sheet (sym (first-stops (drop 1 (refusals (headerOf sheet) sheet)) refl λ e. h (short ∙ e)))
 
   -- and from here on it has one
   module _ (whole : a .refusal ≡ 0) where
@@ -68,29 +49,29 @@ module _ (sheet : List ℕ) (a : HeaderAnswer) (read : a ≡ readHeader sheet) w
         first-past (drop 1 (refusals (headerOf sheet) sheet)) (sym short ∙ whole)
         ∙ ap (λ (h : Header). first (drop 1 (refusals h sheet))) (sym header-read)
 
-    -- a header that is refused
-    pub judged-fields : (fieldRefusal (a .header) ≡ 0 → ⊥) → refusedSheet (fieldRefusal (a .header)) ≡ judgeSheet sheet
-    judged-fields h = judged-refused sheet (past-short ∙ first-here (drop 2 (refusals (a .header) sheet)) h) h
+    -- a sheet that one of them refuses
+    pub judged-past : {n : ℕ} → n ≡ first (drop 1 (refusals (a .header) sheet)) → (n ≡ 0 → ⊥) → refusedSheet n ≡ judgeSheet sheet
+    judged-past e h = judged-refused sheet (past-short ∙ sym e) h
 
-    module _ (good : fieldRefusal (a .header) ≡ 0) where
-      -- with good fields, the length and the values decide
-      past-fields : sheetRefusal sheet ≡ first (drop 2 (refusals (a .header) sheet))
-      past-fields = past-short ∙ first-past (drop 2 (refusals (a .header) sheet)) good
+    -- an accepted sheet
+    pub judged-good : {n : ℕ} → n ≡ first (drop 1 (refusals (a .header) sheet)) → n ≡ 0 → a ≡ judgeSheet sheet
+    judged-good e z = read ∙ ap (λ (n : ℕ). headerUnless n sheet) (sym short ∙ whole) ∙ judged sheet (past-short ∙ sym e ∙ z)
 
-      -- a sheet of another length than its header says
-      pub judged-length : (length sheet ≡ 6 + 8 * a .header .elements → ⊥) → refusedSheet 4 ≡ judgeSheet sheet
-      judged-length h = judged sheet (past-fields ∙ simp (ne-eqb _ _ h))
+-- those other refusals, in their order
+module _ (h : Header) (sheet : List ℕ) where
+  -- a header that is refused
+  pub past-refused : (fieldRefusal h ≡ 0 → ⊥) → fieldRefusal h ≡ first (drop 1 (refusals h sheet))
+  past-refused bad = first-stops (drop 2 (refusals h sheet)) refl bad
 
-      module _ (exact : length sheet ≡ 6 + 8 * a .header .elements) where
-        -- with the right length, the values decide
-        past-length : sheetRefusal sheet ≡ first (drop 3 (refusals (a .header) sheet))
-        past-length = past-fields ∙ simp (eq-eqb _ _ exact)
+  module _ (good : fieldRefusal h ≡ 0) where
+    -- with good fields, the length and the values decide
+    past-fields : first (drop 1 (refusals h sheet)) ≡ first (drop 2 (refusals h sheet))
+    past-fields = first-past (drop 2 (refusals h sheet)) good
 
-        -- a sheet with a value of P or more
-        pub judged-values : (valueRefusal (a .header .elements) sheet ≡ 0 → ⊥)
-            → refusedSheet (valueRefusal (a .header .elements) sheet) ≡ judgeSheet sheet
-        judged-values h = judged-refused sheet (past-length ∙ first-here [] h) h
+    -- a sheet of another length than its header says
+    pub past-other-length : (length sheet ≡ 6 + 8 * h .elements → ⊥) → 4 ≡ first (drop 1 (refusals h sheet))
+    past-other-length other = sym (past-fields ∙ simp (ne-eqb _ _ other))
 
-        -- an accepted sheet
-        pub judged-good : valueRefusal (a .header .elements) sheet ≡ 0 → a ≡ judgeSheet sheet
-        judged-good e = read ∙ ap (λ (n : ℕ). headerUnless n sheet) (sym short ∙ whole) ∙ judged sheet (past-length ∙ first-past [] e)
+    -- with the right length, the values decide
+    pub past-length : length sheet ≡ 6 + 8 * h .elements → valueRefusal (h .elements) sheet ≡ first (drop 1 (refusals h sheet))
+    past-length exact = sym (past-fields ∙ simp (eq-eqb _ _ exact) (first-one (valueRefusal (h .elements) sheet)))

@@ -3,4 +3,3 @@ pub mod Accepted
 pub mod BitLaws
 pub mod JudgeLaws
 pub mod JudgedLaws
-pub mod Tabs

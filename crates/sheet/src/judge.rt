@@ -7,9 +7,10 @@ use crate::header::refused;
 use tip5::b_field_element::BFieldElement;
 use tip5::refusal;
 ghost use mathlib.Core.Path.{_≡_};
-ghost use Prim.Native.Nat.{_+_, _*_};
-ghost use lib.ListN.{length};
-ghost use Rattle.sheet.specs.Sheet.{fieldRefusal, judgeSheet, valueRefusal};
+ghost use Prim.Native.Nat.{_+_, _*_, _^_, _<_};
+ghost use lib.ListN.{drop, length};
+ghost use Rattle.sheet.specs.Sheet.{fieldRefusal, judgeSheet, refusals, valueRefusal};
+ghost use Rattle.tip5.specs.Judge.{first};
 
 // The most elements that a sheet may have.
 const ELEMENT_LIMIT: usize = 4096;
@@ -46,6 +47,21 @@ fn judge_values(sheet: &[u8], n: usize) -> u8
     refusal::NONE
 }
 
+// The first refusal of a sheet with the header h: that of its fields, of its length, of its values.
+fn judge_past_header(sheet: &[u8], h: Header) -> u8
+    requires { ⌜ h .elements < 2 ^ 13 ⌝ }
+    ensures { λ r. ⌜ r ≡ first (drop 1 (refusals h (now (sheet .entry)))) ⌝ }
+{
+    let fields = judge_fields(h);
+    if fields != refusal::NONE {
+        return fields;
+    }
+    if sheet.len() != 6 + 8 * h.elements {
+        return refusal::WRONG_SHEET_LENGTH;
+    }
+    judge_values(sheet, h.elements)
+}
+
 // The header of an accepted sheet, or the first refusal.
 pub fn judge_sheet(sheet: &[u8]) -> HeaderAnswer
     ensures { λ r. ⌜ r ≡ judgeSheet (now (sheet .entry)) ⌝ }
@@ -54,17 +70,9 @@ pub fn judge_sheet(sheet: &[u8]) -> HeaderAnswer
     if read.refusal != refusal::NONE {
         return read;
     }
-    let h = read.header;
-    let fields = judge_fields(h);
-    if fields != refusal::NONE {
-        return refused(fields);
-    }
-    if sheet.len() != 6 + 8 * h.elements {
-        return refused(refusal::WRONG_SHEET_LENGTH);
-    }
-    let values = judge_values(sheet, h.elements);
-    if values != refusal::NONE {
-        return refused(values);
+    let found = judge_past_header(sheet, read.header);
+    if found != refusal::NONE {
+        return refused(found);
     }
     read
 }

@@ -7,7 +7,7 @@ use Prim.Native.Nat.{ℕ, zero, suc, _≤_, _<_}
 use native.Mathlib.Omega.{arith}
 use borrow.Author.Tests.{eq-eqb, eqb-true, le-ltb, lt-ltb, ne-eqb}
 use lib.Dec.{eqb}
-use lib.ListN.{length}
+use lib.ListN.{getD, length}
 use Rattle.numbers.proofs.Tests.{passed}
 use Rattle.tip5.specs.Judge.{first, lengthRefusal}
 use Rattle.tip5.specs.Permutation.{roundRefusal}
@@ -25,6 +25,13 @@ first-none ns e h = first-past ns e ∙ h
 pub none-first : (n : ℕ) (ns : List ℕ) → first (n ∷ ns) ≡ 0 → (n ≡ 0) × (first ns ≡ 0)
 none-first zero ns h = (refl, h)
 none-first (suc n) ns h = absurd (omega arith)
+
+-- where no refusal comes first, there is none
+pub none-refuses : (ns : List ℕ) → first ns ≡ 0 → (k : ℕ) → getD ns k 0 ≡ 0
+none-refuses [] e k = refl
+none-refuses (zero ∷ ns) e zero = refl
+none-refuses (zero ∷ ns) e (suc k) = none-refuses ns e k
+none-refuses (suc n ∷ ns) e k = absurd (omega arith)
 
 -- a refusal r that code answers early, and one that it answers after n is none
 

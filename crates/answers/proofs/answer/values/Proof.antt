@@ -2,17 +2,13 @@
 -- Assumes nothing.
 use mathlib.Core.List.{map}
 use mathlib.Core.Path.{_≡_, ap, _∙_}
-use Prim.Native.Nat.{ℕ, _-_, _<_}
+use Prim.Native.Nat.{_-_}
 use native.Mathlib.Omega.{arith}
 use borrow.Author.Needs.{needs}
-use borrow.Author.Tests.{lt-ltb}
 use lib.ListN.{getD}
 use Rattle.numbers.specs.Fill.{Filled}
 use Rattle.numbers.proofs.Fill.{filled-none, filled-more, filled-all}
-use Rattle.numbers.specs.Modulus.{P}
 use Rattle.numbers.proofs.Lists.{tab-getD}
-use Rattle.tip5.specs.declared.b_field_element.ValueAnswer.{ValueAnswer}
-use Rattle.tip5.specs.Element.{elementOf, value}
 use Rattle.rounds.specs.Field.{valueOf}
 use Rattle.answers.proofs.answer.values.Statement.{statement}
 use Rattle.answers.proofs.answer.values.Tie as tie
@@ -23,21 +19,17 @@ Inv-loop digest out₀ i₀ out i = Filled 5 (λ k. valueOf (getD digest k 0)) i
 abbrev μ-loop : tie.MeasureT-loop
 μ-loop digest out₀ i₀ out i = 5 - i
 
--- the value of a word below P is not refused
-value-is : {w : ℕ} {a : ValueAnswer} → a ≡ value (elementOf w) → w < P → a .value .0 ≡ valueOf w
-value-is {w} e h = ap (λ (x : ValueAnswer). x .value .0) e ∙ simp (lt-ltb w P h)
-
 loop-holds : tie.Need-loop-holds Inv-loop μ-loop
 loop-holds c = filled-none _ (search needs)
 
-mul-t9 : tie.Need-mul-t9 Inv-loop μ-loop
-mul-t9 c = omega arith
+mul-value : tie.Need-mul-value Inv-loop μ-loop
+mul-value c = omega arith
 
-array-read-t12 : tie.Need-array-read-t12 Inv-loop μ-loop
-array-read-t12 c = omega arith
+array-read-value : tie.Need-array-read-value Inv-loop μ-loop
+array-read-value c = omega arith
 
 value-requires : tie.Need-value-requires Inv-loop μ-loop
-value-requires c κs = tt
+value-requires c κs = c .before .before .pre (c .before .loop .i)
 
 mul-out : tie.Need-mul-out Inv-loop μ-loop
 mul-out c = omega arith
@@ -53,8 +45,7 @@ loop-less c = omega arith
 
 loop-again : tie.Need-loop-again Inv-loop μ-loop
 loop-again c =
-    let l = c .before .before .before .loop in
-    filled-more (l .inv) (c .before .before .loop-test .taken) (value-is (c .before .value .ensures) (c .before .before .before .before .pre (l .i)))
+    filled-more (c .before .before .loop .inv) (c .before .loop-test .taken) (c .value .ensures)
 
 returns : tie.Need-returns Inv-loop μ-loop
 returns c =
@@ -68,8 +59,8 @@ values-spec =
     Inv-loop
     μ-loop
     loop-holds
-    mul-t9
-    array-read-t12
+    mul-value
+    array-read-value
     value-requires
     mul-out
     array-write-out

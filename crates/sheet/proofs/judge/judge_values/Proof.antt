@@ -8,7 +8,7 @@ use borrow.Author.Tests.{lt-ltb, le-ltb}
 use Rattle.numbers.specs.Lists.{tab}
 use Rattle.tip5.specs.Judge.{wordRefusal}
 use Rattle.sheet.specs.Sheet.{value, valueRefusal, valuesOf}
-use Rattle.sheet.proofs.Tabs.{tab-next, tab-none}
+use Rattle.numbers.proofs.Lists.{tab-next, tab-none}
 use Rattle.sheet.proofs.judge.judge_values.Statement.{statement}
 use Rattle.sheet.proofs.judge.judge_values.Tie as tie
 
