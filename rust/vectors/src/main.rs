@@ -28,6 +28,10 @@ fn main() -> ExitCode {
     ];
     for (path, text) in files {
         let path = Path::new(root).join(path);
+        // A file that would stay the same keeps its time, so that what was built of it is still newer.
+        if std::fs::read(&path).is_ok_and(|old| old == text.as_bytes()) {
+            continue;
+        }
         if !path.parent().is_some_and(Path::exists) {
             println!(
                 "{}: its crate is not there, and it was not written",
