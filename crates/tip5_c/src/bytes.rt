@@ -1,6 +1,6 @@
 // Sixteen words and 128 bytes, each word lowest byte first.
 ghost use mathlib.Core.Path.{_≡_};
-ghost use Prim.Native.Nat.{_+_, _^_, _<_};
+ghost use Prim.Native.Nat.{_+_, _/_, _%_, _^_, _<_};
 ghost use lib.ListN.{length};
 ghost use Rattle.tip5_c.specs.Bytes.{bytesOf, wordAt, wordsOf};
 ghost use Rattle.tip5_c.specs.Halves.{fourAt};
@@ -43,19 +43,21 @@ pub(crate) fn words_of(bytes: &[u8]) -> [u64; 16]
     words
 }
 
+// Byte j of a word.
+fn byte_of(word: u64, j: usize) -> u8
+    requires { ⌜ j < 8 ⌝ }
+    ensures { λ r. ⌜ r ≡ word / 256 ^ j % 256 ⌝ }
+{
+    ((word >> (8 * j)) % 256) as u8
+}
+
 pub(crate) fn put_words(bytes: &mut [u8], words: [u64; 16])
     requires { ⌜ length (now bytes) ≡ 128 ⌝ }
     ensures { λ r. ⌜ now (bytes .exit) ≡ bytesOf words ⌝ }
 {
-    let mut k = 0;
-    while k < 16 {
-        let mut left = words[k];
-        let mut j = 0;
-        while j < 8 {
-            bytes[8 * k + j] = (left % 256) as u8;
-            left = left / 256;
-            j += 1;
-        }
-        k += 1;
+    let mut i = 0;
+    while i < 128 {
+        bytes[i] = byte_of(words[i / 8], i % 8);
+        i += 1;
     }
 }
