@@ -54,8 +54,8 @@ abbrev pub fieldRefusal : Header → ℕ
 fieldRefusal h = first (fieldRefusals h)
 
 -- refusal 4 for a sheet that is not as long as its number of elements says
-abbrev pub lengthRefusal : (elements : ℕ) (sheet : List ℕ) → ℕ
-lengthRefusal n sheet = cond (eqb (length sheet) (6 + 8 * n)) 0 4
+abbrev pub sheetLengthRefusal : (elements : ℕ) (sheet : List ℕ) → ℕ
+sheetLengthRefusal n sheet = cond (eqb (length sheet) (6 + 8 * n)) 0 4
 
 -- refusal 1 for a value that is P or more
 abbrev pub valueRefusal : (elements : ℕ) (sheet : List ℕ) → ℕ
@@ -66,7 +66,7 @@ abbrev pub refusals : (h : Header) (sheet : List ℕ) → List ℕ
 refusals h sheet =
     shortRefusal sheet
     ∷ fieldRefusal h
-    ∷ lengthRefusal (h .elements) sheet
+    ∷ sheetLengthRefusal (h .elements) sheet
     ∷ valueRefusal (h .elements) sheet
     ∷ []
 

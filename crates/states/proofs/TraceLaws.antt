@@ -6,7 +6,7 @@ use Prim.Native.Nat.{ℕ, suc, _-_, _/_, _%_, _<_}
 use native.Mathlib.Decide.{ℕ-discrete}
 use native.Mathlib.Omega.{arith}
 use borrow.Author.Tests.{eq-eqb, ne-eqb}
-use Rattle.states.specs.Trace.{entering}
+use Rattle.states.specs.Entering.{entering}
 use Rattle.rounds.specs.Field.{Below}
 use Rattle.rounds.specs.Round.{round, rounds}
 use Rattle.tip5.specs.Judge.{wordRefusal}

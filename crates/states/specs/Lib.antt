@@ -1,3 +1,4 @@
 -- What the calls of this crate answer.
+pub mod Entering
 pub mod InPlace
 pub mod Trace

@@ -5,6 +5,7 @@ use tip5::refusal;
 ghost use mathlib.Core.Path.{_≡_};
 ghost use Prim.Native.Nat.{_<_};
 ghost use Rattle.rounds.specs.Field.{Below};
+ghost use Rattle.states.specs.Entering as Entering;
 ghost use Rattle.states.specs.Trace.{sixStates};
 ghost use Rattle.states.specs.Trace as Trace;
 
@@ -18,7 +19,7 @@ pub struct TraceAnswer {
 // more.
 fn entering(k: usize, state: [u64; 16]) -> [u64; 16]
     requires { ⌜ (k < 96) × Below state ⌝ }
-    ensures { λ r. ⌜ r ≡ Trace.entering k state ⌝ }
+    ensures { λ r. ⌜ r ≡ Entering.entering k state ⌝ }
 {
     if k % 16 != 0 {
         return state;

@@ -7,7 +7,8 @@ use native.Mathlib.Omega.{arith}
 use lib.ListN.{getD}
 use Rattle.numbers.specs.Fill.{Filled}
 use Rattle.numbers.proofs.Fill.{filled-none, filled-more, filled-all}
-use Rattle.states.specs.Trace.{entering, sixStates}
+use Rattle.states.specs.Entering.{entering}
+use Rattle.states.specs.Trace.{sixStates}
 use Rattle.rounds.specs.Round.{rounds}
 use Rattle.rounds.specs.Field.{Below}
 use Rattle.rounds.proofs.RoundLaws.{rounds-below}
