@@ -2,6 +2,7 @@
 pub mod Element
 pub mod Judge
 pub mod Moves
+pub mod Operations
 pub mod Permutation
 pub mod Powers
 pub mod Reduced

@@ -3,10 +3,12 @@
 use crate::field;
 use crate::refusal;
 ghost use mathlib.Core.Path.{_≡_};
+ghost use Prim.Native.Nat.{_<_};
 ghost use Rattle.tip5.specs.Element.{element, elementOf, fromRaw, rawWord, value, sum, difference, product, modPow};
 ghost use mathlib.Core.List.{[], _∷_};
 ghost use Rattle.numbers.specs.Modulus.{P};
 ghost use Rattle.rounds.specs.Field.{rawOf};
+ghost use Rattle.tip5.specs.Operations.{combination};
 
 // A plain value. Any u64 may stand here.
 pub struct Value(pub u64);
@@ -30,6 +32,24 @@ pub struct ValueAnswer {
 pub struct WordAnswer {
     pub refusal: u8,
     pub word: u64,
+}
+
+// What is done to two raw words.
+pub(crate) enum Operation {
+    Sum,
+    Difference,
+    Product,
+}
+
+fn combined(operation: Operation, a: u64, b: u64) -> u64
+    requires { ⌜ (a < P) × (b < P) ⌝ }
+    ensures { λ r. ⌜ r ≡ combination operation a b ⌝ }
+{
+    match operation {
+        Operation::Sum => field::add(a, b),
+        Operation::Difference => field::sub(a, b),
+        Operation::Product => field::mul(a, b),
+    }
 }
 
 impl BFieldElement {
@@ -96,43 +116,19 @@ impl BFieldElement {
     pub fn add(self, rhs: BFieldElement) -> ElementAnswer
         ensures { λ r. ⌜ r ≡ sum self rhs ⌝ }
     {
-        let a = self.0;
-        let b = rhs.0;
-        if Self::P <= a {
-            return ElementAnswer::refused();
-        }
-        if Self::P <= b {
-            return ElementAnswer::refused();
-        }
-        ElementAnswer::accepted(field::add(a, b))
+        ElementAnswer::judged(Operation::Sum, self.0, rhs.0)
     }
 
     pub fn sub(self, rhs: BFieldElement) -> ElementAnswer
         ensures { λ r. ⌜ r ≡ difference self rhs ⌝ }
     {
-        let a = self.0;
-        let b = rhs.0;
-        if Self::P <= a {
-            return ElementAnswer::refused();
-        }
-        if Self::P <= b {
-            return ElementAnswer::refused();
-        }
-        ElementAnswer::accepted(field::sub(a, b))
+        ElementAnswer::judged(Operation::Difference, self.0, rhs.0)
     }
 
     pub fn mul(self, rhs: BFieldElement) -> ElementAnswer
         ensures { λ r. ⌜ r ≡ product self rhs ⌝ }
     {
-        let a = self.0;
-        let b = rhs.0;
-        if Self::P <= a {
-            return ElementAnswer::refused();
-        }
-        if Self::P <= b {
-            return ElementAnswer::refused();
-        }
-        ElementAnswer::accepted(field::mul(a, b))
+        ElementAnswer::judged(Operation::Product, self.0, rhs.0)
     }
 
     // The element to the power of any exponent; to the power of 0 it is ONE.
@@ -149,6 +145,19 @@ impl BFieldElement {
 }
 
 impl ElementAnswer {
+    // The operation on two raw words, once they are judged.
+    fn judged(operation: Operation, a: u64, b: u64) -> ElementAnswer
+        ensures { λ r. ⌜ r ≡ element (a ∷ b ∷ []) (combination operation a b) ⌝ }
+    {
+        if BFieldElement::P <= a {
+            return ElementAnswer::refused();
+        }
+        if BFieldElement::P <= b {
+            return ElementAnswer::refused();
+        }
+        ElementAnswer::accepted(combined(operation, a, b))
+    }
+
     fn accepted(word: u64) -> ElementAnswer
         ensures { λ r. ⌜ r ≡ element [] word ⌝ }
     {
