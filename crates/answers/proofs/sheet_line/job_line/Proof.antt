@@ -5,7 +5,6 @@ use Prim.Native.Nat.{ℕ}
 use Rattle.lines.proofs.PutLaws.{front-same}
 use Rattle.answers.specs.Job.{lineBy}
 use Rattle.answers.proofs.SheetLineLaws.{by-draw}
-use borrow.Author.Needs.{needs}
 use Rattle.answers.proofs.sheet_line.job_line.Statement.{statement}
 use Rattle.answers.proofs.sheet_line.job_line.Tie as tie
 
