@@ -1,7 +1,14 @@
 -- One walk by hand for every function `f(sponge: &mut Tip5, words: &[u64]) -> u8` that copies the record out, makes a call g by
 -- value on it and the words, puts the answered record back whole and returns the refusal. All that it knows of g is what g answers.
 -- Assumes nothing.
-use Rattle.walks.proofs.Names.{_≡_, refl, ℕ, List, [], _∷_, length, URA, named, w8, w64, Val, vptr, id⊢, Lft, Share, ftrue, flft, Heap, Calls, Loops, Atoms, FmC, Given, ‵, raw, _⊛_, _$_, _∵_, !, qed, by, move, keep, drop, use1, split3, join, fsplit, fsplit3, fjoin, look, init, of-opd, and-then, no-more, returns, enter, alloc1, alloc0, params1, pass1, pass0, free0, u8, u64, Is, owned, uint-makes, RefT, now, MutRef, owns, sliceVal, ShrSlice, shr-slice-lawful, plain, SliceRefOf, Model, Routines, Running, GhostRules, givenOf, tables, Closed, Lfts, Args, fact, ent, Clauses, AtExit, closing, tripleOf, slice-vals, shr-slice-tells, Lends, left-behind, Bound, onEntry, Triple, Answer, Ended, Stated, Slot, yes, WalkLeaving, asks, copies-out, field-of, frees-at, lands-spelt, lets, local, puts-back}
+use Rattle.walks.proofs.Names.{_≡_, refl, ℕ, List, [], _∷_, length, URA, named, w8, w64, Val, vptr, id⊢, Lft, Share, ftrue, flft, Heap, Calls, Loops, Atoms}
+use Rattle.walks.proofs.Names.{FmC, Given, ‵, raw, _⊛_, _$_, _∵_, !, qed, by, move, keep, drop, use1, split3, join, fsplit, fsplit3, fjoin}
+use Rattle.walks.proofs.Names.{look, init, of-opd, and-then, no-more, returns, enter, alloc1, alloc0, params1, pass1, pass0, free0, u8, u64, Is, owned}
+use Rattle.walks.proofs.Names.{uint-makes, RefT, now, MutRef, owns, sliceVal, ShrSlice, shr-slice-lawful, plain, SliceRefOf}
+use Rattle.walks.proofs.Names.{Model, Routines, Running, GhostRules, givenOf, tables, Closed, Lfts, Args, fact, ent, Clauses, AtExit, closing, tripleOf}
+use Rattle.walks.proofs.Names.{slice-vals, shr-slice-tells, Lends, left-behind}
+use Rattle.walks.proofs.Names.{Bound, onEntry, Triple, Answer, Ended, Stated, Slot, yes, WalkLeaving, asks, copies-out, field-of, frees-at, lands-spelt, lets}
+use Rattle.walks.proofs.Names.{local, puts-back}
 use mir.Syntax.{Name, Fn, local as declares, valueLocal, tyInt, tyRef, imm, mut, place, deref, field, copy, rvOpd, seq, assign, call, return}
 use denote.Memory.{pointee}
 use denote.Slice.{sliceTy}

@@ -2,7 +2,14 @@
 -- it with the lent slice handed on for good, the answered record is put back whole, and the counts are returned. All that the
 -- proof knows of the draw by value is that it meets its contract.
 -- Assumes nothing.
-use Rattle.walks.proofs.Names.{_≡_, refl, ℕ, List, [], _∷_, length, URA, named, erased, w32, w64, Val, vint, vptr, id⊢, Lft, Share, ftrue, fres, flft, Heap, Calls, Loops, Atoms, FmC, givenOf, tables, Given, ‵, raw, _⊛_, _$_, _∵_, !, qed, by, move, keep, drop, use1, split3, join, fsplit, fsplit3, fjoin, agg, addr, fld, from, hop, stop, look-in, sub, whole, look, init, of-opd, and-then, no-more, returns, enter, alloc1, alloc0, params1, pass1, pass0, free0, u32, u64, Is, owned, uint-vals, uint-tells, RefT, MutRef, MutSlice, now, ptr-vals, mut-tells, owns, sliceVal, slice-vals, mut-slice-tells, mut-slice-lawful, Bound, Args, Vals, flat, typesAt, onEntry, Triple, cited, Promise, Promised, WalkTo, closed, calls, copies-out, field-of, frees-at, lands-spelt, lets, local, puts-back}
+use Rattle.walks.proofs.Names.{_≡_, refl, ℕ, List, [], _∷_, length, URA, named, erased, w32, w64, Val, vint, vptr, id⊢, Lft, Share, ftrue, fres, flft, Heap}
+use Rattle.walks.proofs.Names.{Calls, Loops, Atoms, FmC, givenOf, tables, Given, ‵, raw, _⊛_, _$_, _∵_, !, qed, by, move, keep, drop, use1, split3, join}
+use Rattle.walks.proofs.Names.{fsplit, fsplit3, fjoin}
+use Rattle.walks.proofs.Names.{agg, addr, fld, from, hop, stop, look-in, sub, whole, look, init, of-opd, and-then, no-more, returns, enter, alloc1, alloc0}
+use Rattle.walks.proofs.Names.{params1, pass1, pass0, free0, u32, u64, Is, owned, uint-vals, uint-tells, RefT, MutRef, MutSlice, now, ptr-vals, mut-tells, owns}
+use Rattle.walks.proofs.Names.{sliceVal, slice-vals, mut-slice-tells, mut-slice-lawful}
+use Rattle.walks.proofs.Names.{Bound, Args, Vals, flat, typesAt, onEntry, Triple, cited, Promise, Promised, WalkTo, closed, calls, copies-out, field-of}
+use Rattle.walks.proofs.Names.{frees-at, lands-spelt, lets, local, puts-back}
 use denote.Struct.Laws as LL
 use Rattle.draws.specs.Answers.{sampleIndices, sampledSlice}
 use Rattle.draws.specs.InPlace.{leavingCounts}
