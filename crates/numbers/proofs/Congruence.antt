@@ -2,7 +2,25 @@
 -- Assumes nothing.
 use mathlib.Core.Path.{_≡_, refl, sym, ap, _∙_}
 use Prim.Native.Nat.{ℕ, zero, suc, _+_, _*_, _%_, _/_, _^_, _<_}
-use native.Mathlib.Nat.{add-mod, add-mul, add-mul-mod-self-left, add-mul-mod-self-right, add-right-cancel, mod-add-div, mod-eq-of-lt, mod-mod, mod-zero, mul-assoc, mul-comm, mul-mul-mul-comm, mul-one, mul-suc, mul-zero, pow-suc, pow-zero}
+use native.Mathlib.Nat.{
+  add-mod,
+  add-mul,
+  add-mul-mod-self-left,
+  add-mul-mod-self-right,
+  add-right-cancel,
+  mod-add-div,
+  mod-eq-of-lt,
+  mod-mod,
+  mod-zero,
+  mul-assoc,
+  mul-comm,
+  mul-mul-mul-comm,
+  mul-one,
+  mul-suc,
+  mul-zero,
+  pow-suc,
+  pow-zero,
+}
 use native.Mathlib.Omega.{arith}
 use lib.Pow.{pow-add}
 use Rattle.numbers.specs.Congruence.{Cong}

@@ -6,7 +6,24 @@ use mathlib.Core.Bool.{Bool}
 use mathlib.Core.List.{List, [], _∷_}
 use mathlib.Core.Logic.{_≢_, _⊎_, ⊎-elim, by-cases}
 use Prim.Native.Nat.{ℕ, zero, suc, _*_, _/_, _%_, _<_, _∣_, suc-le-suc, zero-le}
-use native.Mathlib.Nat.{add-mul, dvd-add-iff-left, dvd-mod-iff, dvd-mul-right, dvd-mul-right-of-dvd, dvd-refl, dvd-zero, eq-one-of-dvd-one, le-of-suc-le-suc, lt-of-lt-of-le, lt-suc-self, mod-add-div, mod-lt, mul-right-comm, not-suc-le-zero, one-mul}
+use native.Mathlib.Nat.{
+  add-mul,
+  dvd-add-iff-left,
+  dvd-mod-iff,
+  dvd-mul-right,
+  dvd-mul-right-of-dvd,
+  dvd-refl,
+  dvd-zero,
+  eq-one-of-dvd-one,
+  le-of-suc-le-suc,
+  lt-of-lt-of-le,
+  lt-suc-self,
+  mod-add-div,
+  mod-lt,
+  mul-right-comm,
+  not-suc-le-zero,
+  one-mul,
+}
 use native.Mathlib.Decide.{decDvd}
 use lib.Dec.{T}
 use lib.Ieee.Fits.{and-l, and-r}

@@ -6,7 +6,31 @@ use mathlib.Core.Bool.{Bool, not, _&&_}
 use mathlib.Core.List.{List}
 use mathlib.Core.Logic.{_≢_, by-cases}
 use Prim.Native.Nat.{ℕ, zero, suc, pred, _+_, _-_, _*_, _/_, _%_, _^_, _≤_, _<_, _∣_, suc-le-suc, zero-le}
-use native.Mathlib.Nat.{add-sub-of-le, div-eq-of-eq-mul-left, div-mul-cancel, dvd-mul-left, le-of-dvd, le-of-lt, lt-of-le-of-lt, mod-add-div, mod-eq-of-lt, mod-lt, mul-assoc, mul-comm, mul-div-cancel', mul-one, mul-zero, ne-of-gt, ne-of-lt, one-mul, pos-of-ne-zero, pow-suc, sub-add-cancel, zero-mod, zero-mul}
+use native.Mathlib.Nat.{
+  add-sub-of-le,
+  div-eq-of-eq-mul-left,
+  div-mul-cancel,
+  dvd-mul-left,
+  le-of-dvd,
+  le-of-lt,
+  lt-of-le-of-lt,
+  mod-add-div,
+  mod-eq-of-lt,
+  mod-lt,
+  mul-assoc,
+  mul-comm,
+  mul-div-cancel',
+  mul-one,
+  mul-zero,
+  ne-of-gt,
+  ne-of-lt,
+  one-mul,
+  pos-of-ne-zero,
+  pow-suc,
+  sub-add-cancel,
+  zero-mod,
+  zero-mul,
+}
 use native.Mathlib.Decide.{decLt}
 use native.Mathlib.Numerals.{add-one}
 use native.Mathlib.Omega.{arith}

@@ -2,7 +2,21 @@
 -- Assumes nothing.
 use mathlib.Core.Path.{_≡_, sym, ap, _∙_}
 use Prim.Native.Nat.{ℕ, zero, suc, _+_, _*_, _/_, _%_, _^_, _<_}
-use native.Mathlib.Nat.{add-suc, add-zero, div-add-mod', div-div-eq-div-mul, div-eq-of-lt, div-one, le-of-suc-le-suc, not-suc-le-zero, pow-suc, pow-succ', pow-zero, suc-add, zero-mul}
+use native.Mathlib.Nat.{
+  add-suc,
+  add-zero,
+  div-add-mod',
+  div-div-eq-div-mul,
+  div-eq-of-lt,
+  div-one,
+  le-of-suc-le-suc,
+  not-suc-le-zero,
+  pow-suc,
+  pow-succ',
+  pow-zero,
+  suc-add,
+  zero-mul,
+}
 use native.Mathlib.Omega.{arith}
 use lib.Arith.{digits-div, digits-mod}
 use Rattle.numbers.specs.Lists.{total}

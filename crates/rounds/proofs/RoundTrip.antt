@@ -13,7 +13,18 @@ use Rattle.rounds.specs.Round.{addConstants, circulant, permuted, round,
 use Rattle.rounds.proofs.CirculantLaws.{invMds-mds, mds-invMds}
 use Rattle.rounds.specs.Field.{Below}
 use Rattle.rounds.proofs.LayersUndone.{addConstants-subtractConstants, invSboxLayer-sboxLayer, sboxLayer-invSboxLayer, subtractConstants-addConstants}
-use Rattle.rounds.proofs.RoundLaws.{circulant-below, circulant-length, invRound-below, invRound-length, rounds-below, rounds-length, sboxLayer-below, sboxLayer-length, subtractConstants-below, subtractConstants-length}
+use Rattle.rounds.proofs.RoundLaws.{
+  circulant-below,
+  circulant-length,
+  invRound-below,
+  invRound-length,
+  rounds-below,
+  rounds-length,
+  sboxLayer-below,
+  sboxLayer-length,
+  subtractConstants-below,
+  subtractConstants-length,
+}
 
 -- Rounds
 

@@ -9,7 +9,18 @@ use Rattle.tip5.specs.Judge.{first}
 use Rattle.tip5.proofs.RefusalLaws.{first-one, first-past, first-stops}
 use Rattle.sheet.specs.declared.header.Header.{Header}
 use Rattle.sheet.specs.declared.header.HeaderAnswer.{HeaderAnswer}
-use Rattle.sheet.specs.Sheet.{fieldRefusal, headerOf, headerUnless, judgeSheet, readHeader, refusals, refusedSheet, sheetRefusal, shortRefusal, valueRefusal}
+use Rattle.sheet.specs.Sheet.{
+  fieldRefusal,
+  headerOf,
+  headerUnless,
+  judgeSheet,
+  readHeader,
+  refusals,
+  refusedSheet,
+  sheetRefusal,
+  shortRefusal,
+  valueRefusal,
+}
 use Rattle.sheet.proofs.BitLaws.{field-below}
 
 -- the answer by the sheet's refusal

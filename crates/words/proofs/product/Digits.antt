@@ -3,7 +3,17 @@
 -- Assumes nothing.
 use mathlib.Core.Path.{_≡_, sym, ap, _∙_}
 use Prim.Native.Nat.{ℕ, zero, _+_, _*_, _/_, _%_, _<_}
-use native.Mathlib.Nat.{le-of-lt, mul-le-mul-left, mul-le-mul-right, mod-lt, div-add-mod', div-lt-iff-lt-mul, mul-add-mod-self-right, dvd-mul-right, mod-mod-of-dvd}
+use native.Mathlib.Nat.{
+  le-of-lt,
+  mul-le-mul-left,
+  mul-le-mul-right,
+  mod-lt,
+  div-add-mod',
+  div-lt-iff-lt-mul,
+  mul-add-mod-self-right,
+  dvd-mul-right,
+  mod-mod-of-dvd,
+}
 use native.Mathlib.Omega.{arith}
 use lib.Arith.{digits-lt, digits-div}
 
