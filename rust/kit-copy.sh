@@ -1,7 +1,8 @@
 # Sourced by the scripts that want more of the kit's compiler than its product. `keep_module` runs a
 # command of the kit in a copy of the kit's folder, all of it links, whose compiler also keeps the LLVM
 # module that it was given at -O3 and the object file that it made: module.bc and module.o.
-kit=$(dirname "$(dirname "$(rt doc)")")
+guide=$(rt doc) # on its own, so that set -e sees it fail
+kit=$(dirname "$(dirname "$guide")")
 machine=$(uname -m)
 own=$kit/on/$machine
 
