@@ -1,7 +1,8 @@
 # Sourced by the scripts that want more of the kit's compiler than its product. `keep_module` runs a
 # command of the kit in a copy of the kit's folder, all of it links, whose compiler also keeps the LLVM
 # module that it was given at -O3 and the object file that it made: module.bc and module.o.
-kit=$(dirname "$(dirname "$(rt doc)")")
+guide=$(rt doc) # on its own, so that set -e sees it fail
+kit=$(dirname "$(dirname "$guide")")
 machine=$(uname -m)
 own=$kit/on/$machine
 
@@ -31,9 +32,10 @@ END
 }
 
 # The module of a folder for the machine at hand, as text: it says for which processor it is in these
-# places and no other.
+# places and no other. It goes by a file, since a pipe would hide that the compiler failed.
 own_module() { # FOLDER
-    "$own/toolchain/bin/clang" --target=x86_64-unknown-linux-gnu -x ir "$1/module.bc" -S -emit-llvm -o - |
-        sed -e '/^target datalayout/d' -e '/^target triple/d' \
-            -e 's/"target-cpu"="[^"]*"//' -e 's/"probe-stack"="[^"]*"//'
+    "$own/toolchain/bin/clang" --target=x86_64-unknown-linux-gnu -x ir "$1/module.bc" -S -emit-llvm \
+        -o "$1/x86-64.ll" || return
+    sed -e '/^target datalayout/d' -e '/^target triple/d' \
+        -e 's/"target-cpu"="[^"]*"//' -e 's/"probe-stack"="[^"]*"//' "$1/x86-64.ll"
 }

@@ -19,6 +19,10 @@ need_source() {
     export VARDRAKUP_SOURCE
 }
 
+need_rt() {
+    command -v rt >/dev/null || leave "there is no rt"
+}
+
 # Whether a file was made after every crate was last changed.
 is_newest() { # FILE
     [ -e "$1" ] && [ -z "$(find "$root/crates" "$root/crates.txt" -newer "$1" -print -quit)" ]
@@ -31,6 +35,7 @@ need_archives() { # NAME...
     mkdir -p "$root/target/log"
     for name in "$@"; do
         is_newest "$root/target/staticlib/lib$name.a" && continue
+        need_rt
         log=$root/target/log/staticlib-$name
         echo "proving and building lib$name.a, which takes some minutes the first time" >&2
         (cd "$root" && rt staticlib "$name") >"$log" 2>&1 || { cat "$log" && exit 1; }
@@ -43,7 +48,9 @@ need_archives() { # NAME...
 need_unproved_archives() { # NAME...
     [ -z "${VARDRAKUP_ARCHIVES:-}" ] || return 0
     for name in "$@"; do
-        is_newest "$root/target/unproved/lib$name.a" || "$here/unproved-archive" "$name"
+        is_newest "$root/target/unproved/lib$name.a" && continue
+        need_rt
+        "$here/unproved-archive" "$name"
     done
     VARDRAKUP_ARCHIVES=$root/target/unproved
     export VARDRAKUP_ARCHIVES
@@ -53,7 +60,9 @@ need_unproved_archives() { # NAME...
 need_native_archives() { # NAME...
     if [ -z "${VARDRAKUP_ARCHIVES:-}" ] && [ "$(uname -m)" != x86_64 ]; then
         for name in "$@"; do
-            is_newest "$root/target/native/lib$name.a" || "$here/native-archive" "$name"
+            is_newest "$root/target/native/lib$name.a" && continue
+            need_rt
+            "$here/native-archive" "$name"
         done
         VARDRAKUP_ARCHIVES=$root/target/native
         export VARDRAKUP_ARCHIVES

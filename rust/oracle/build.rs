@@ -1,6 +1,7 @@
 //! Takes the twenty-first source from the folder that VARDRAKUP_SOURCE names, makes the edits
-//! listed here and no others, and leaves the result in OUT_DIR for `lib.rs` to include. None of
-//! the source's text is part of this repository.
+//! listed here, puts the `use` line of the stand-ins into each file that needs it, and alters
+//! nothing else. The result is in OUT_DIR for `lib.rs` to include. None of the source's text is
+//! part of this repository.
 
 use std::path::{Path, PathBuf};
 use std::{env, fs};

@@ -1,6 +1,9 @@
 //! The command line of the programs here: names that begin with two dashes, each alone or with a
-//! value after it.
+//! value after it. And what a program says while it runs.
 
+mod progress;
+
+pub use progress::Progress;
 use std::process::exit;
 use std::str::FromStr;
 

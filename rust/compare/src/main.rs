@@ -23,6 +23,11 @@ fn main() -> ExitCode {
     println!("seed {}; {}", options.seed, ours.description());
     let mut runner = Runner::new(ours);
     let makers = groups::all();
+    let bare = groups::without_cases(&makers);
+    if !bare.is_empty() {
+        eprintln!("compare: no cases are made for {}", bare.join(", "));
+        return ExitCode::FAILURE;
+    }
     let makers: Vec<_> = makers.iter().filter(|it| options.wants(it)).collect();
     if makers.is_empty() {
         eprintln!(

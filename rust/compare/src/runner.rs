@@ -5,8 +5,7 @@ use crate::groups::Maker;
 use crate::options::Options;
 use calls::{Answer, Arg, CALLS, Ours};
 use cases::Random;
-use std::io::IsTerminal;
-use std::time::{Duration, Instant};
+use command_line::Progress;
 
 /// Cases that are run at a time.
 const BATCH: usize = 256;
@@ -27,8 +26,7 @@ pub struct Runner {
     rows: Vec<Row>,
     missing: Vec<&'static str>,
     batch: Vec<Case>,
-    told: Instant,
-    on_terminal: bool,
+    progress: Progress,
 }
 
 impl Runner {
@@ -38,8 +36,7 @@ impl Runner {
             rows: vec![],
             missing: vec![],
             batch: vec![],
-            told: Instant::now(),
-            on_terminal: std::io::stderr().is_terminal(),
+            progress: Progress::start(),
         }
     }
 
@@ -90,23 +87,14 @@ impl Runner {
         }
     }
 
-    /// On a terminal one line that is written over, otherwise a line every few seconds.
     fn tell_progress(&mut self) {
-        let pause = if self.on_terminal { 200 } else { 5000 };
-        if self.told.elapsed() < Duration::from_millis(pause) {
-            return;
-        }
-        self.told = Instant::now();
         let Some(row) = self.rows.last() else { return };
-        let text = format!(
-            "{}: {} cases, {} different",
-            row.label, row.cases, row.different
-        );
-        if self.on_terminal {
-            eprint!("\r{text:<70}\r");
-        } else {
-            eprintln!("{text}");
-        }
+        self.progress.tell(|| {
+            format!(
+                "{}: {} cases, {} different",
+                row.label, row.cases, row.different
+            )
+        });
     }
 
     pub fn print_table(&self) {

@@ -6,7 +6,8 @@ use crate::program::{Ran, shown};
 use crate::reading::{self, OUTCOMES};
 use crate::starter::Starter;
 use cases::Random;
-use std::io::{self, IsTerminal};
+use command_line::Progress;
+use std::io;
 use std::sync::Mutex;
 use std::sync::atomic::{AtomicUsize, Ordering};
 use std::time::{Duration, Instant};
@@ -40,7 +41,7 @@ struct Tally {
     rows: Vec<Row>,
     done: usize,
     smallest: Option<Difference>,
-    told: Instant,
+    progress: Progress,
 }
 
 /// Runs so many sheets and prints the table. Whether all was as wanted.
@@ -51,7 +52,7 @@ pub fn run(options: &Options) -> bool {
         rows: vec![Row::default(); KINDS.len()],
         done: 0,
         smallest: None,
-        told: began,
+        progress: Progress::start(),
     });
     std::thread::scope(|scope| {
         for _ in 0..options.jobs {
@@ -161,24 +162,10 @@ impl Tally {
         self.rows.iter().map(|row| row.different).sum()
     }
 
-    /// On a terminal one line that is written over, otherwise a line every few seconds.
     fn tell_progress(&mut self, cases: usize) {
-        let on_terminal = std::io::stderr().is_terminal();
-        let pause = Duration::from_millis(if on_terminal { 200 } else { 5000 });
-        if self.told.elapsed() < pause {
-            return;
-        }
-        self.told = Instant::now();
-        let text = format!(
-            "sheets: {} of {cases}, {} different",
-            self.done,
-            self.different()
-        );
-        if on_terminal {
-            eprint!("\r{text:<70}\r");
-        } else {
-            eprintln!("{text}");
-        }
+        let (done, different) = (self.done, self.different());
+        self.progress
+            .tell(|| format!("sheets: {done} of {cases}, {different} different"));
     }
 
     fn print_table(&self, seed: u64, took: Duration) {

@@ -1,13 +1,11 @@
 //! The digests: of ten words, of two digests, and of lists.
 
 use super::lists::each_list;
-use super::{Maker, Push, group, refusals};
+use super::refusals::{self, REFUSED};
+use super::{Maker, Push, group};
 use crate::case::Case;
 use cases::{Random, words};
 use oracle::{Five, Ten, sponge};
-
-/// One case in so many is refused.
-const REFUSED: u64 = 8;
 
 pub fn makers() -> Vec<Maker> {
     group(

@@ -1,7 +1,8 @@
 //! Draws of indices, by value. Their states are led back through the inverse permutation, so that the
 //! words about which the rule turns stand where they are wanted in a squeezed ten.
 
-use super::{Maker, Push, group, refusals};
+use super::refusals::{self, REFUSED};
+use super::{Maker, Push, group};
 use crate::case::Case;
 use cases::{Random, states};
 use oracle::field::{self, P};
@@ -12,9 +13,6 @@ const MOST: u64 = 60;
 
 /// Squeezes before the ten that was made up, at most.
 const BEFORE: u64 = 4;
-
-/// One case in so many is refused before anything is drawn.
-const REFUSED: u64 = 8;
 
 pub fn makers() -> Vec<Maker> {
     group("draws", [("probe_sample_indices", drawings)])

@@ -2,7 +2,8 @@
 //! good states and bad ones.
 
 use super::permutation::state;
-use super::{Maker, Push, group, refusals};
+use super::refusals::{self, REFUSED};
+use super::{Maker, Push, group};
 use crate::case::Case;
 use cases::{Random, words};
 use oracle::field::P;
@@ -10,9 +11,6 @@ use oracle::{State, inverse, permutation};
 
 /// The longest slice that is lent.
 const LONGEST: usize = 300;
-
-/// One case in so many is refused for a word.
-const REFUSED: u64 = 8;
 
 pub fn makers() -> Vec<Maker> {
     group(

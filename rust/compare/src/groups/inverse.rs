@@ -1,13 +1,11 @@
 //! The inverse permutation and its rounds. Each is also run on what the forward call answered.
 
 use super::permutation::{refused, refused_round, state};
+use super::refusals::REFUSED;
 use super::{Maker, Push, group};
 use crate::case::Case;
 use cases::Random;
 use oracle::{inverse, permutation};
-
-/// One case in so many is refused.
-const REFUSED: u64 = 8;
 
 pub fn makers() -> Vec<Maker> {
     group(

@@ -15,6 +15,7 @@ mod rows;
 mod sponge;
 
 use crate::case::Case;
+use calls::CALLS;
 use cases::Random;
 
 /// Where the cases of a call go.
@@ -52,6 +53,14 @@ pub fn all() -> Vec<Maker> {
     .into_iter()
     .flatten()
     .collect()
+}
+
+/// The declared calls that none of these makers makes cases for.
+pub fn without_cases(makers: &[Maker]) -> Vec<&'static str> {
+    let names = CALLS.iter().map(|call| call.name);
+    names
+        .filter(|name| makers.iter().all(|maker| maker.call != *name))
+        .collect()
 }
 
 /// Makers of one group.

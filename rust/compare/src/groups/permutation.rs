@@ -1,13 +1,11 @@
 //! The permutation, its rounds, its trace, and the generated matrix function, against the source's
 //! fast form and its naive one.
 
-use super::{Maker, Push, group, refusals};
+use super::refusals::{self, REFUSED};
+use super::{Maker, Push, group};
 use crate::case::Case;
 use cases::{Random, states, words};
 use oracle::{State, permutation};
-
-/// One case in so many is refused.
-const REFUSED: u64 = 8;
 
 pub fn makers() -> Vec<Maker> {
     group(

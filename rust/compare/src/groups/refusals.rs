@@ -2,6 +2,9 @@
 
 use cases::{Random, states, words};
 
+/// One case in so many is refused for its words or numbers.
+pub const REFUSED: u64 = 8;
+
 /// Sixteen words, of which at least one is p or more.
 pub fn bad_state(random: &mut Random) -> [u64; 16] {
     let mut state = states::mixed(random);

@@ -2,13 +2,11 @@
 
 use super::lists::each_list;
 use super::permutation::state;
-use super::{Maker, Push, group, refusals};
+use super::refusals::{self, REFUSED};
+use super::{Maker, Push, group};
 use crate::case::Case;
 use cases::{Random, states, words};
 use oracle::{State, Ten, inverse, sponge};
-
-/// One case in so many is refused.
-const REFUSED: u64 = 8;
 
 /// Steps in a chain.
 const CHAIN: usize = 10;

@@ -3,9 +3,7 @@
 #![warn(unused)]
 
 pub mod draws;
-pub mod extension;
 pub mod field;
-pub mod hasher;
 pub mod inverse;
 pub mod permutation;
 pub mod rows;

@@ -15,10 +15,18 @@ pub fn hash_rows_of_columns(columns: &[&[u64]]) -> Vec<Five> {
 pub fn hash_rows_of_wide_columns(columns: &[&[u64]]) -> Vec<Five> {
     let columns = columns
         .iter()
-        .map(|column| extension::elements_of(column))
+        .map(|column| extension_elements(column))
         .collect_vec();
     let columns = columns.iter().map(Vec::as_slice).collect_vec();
     digests(Tip5::hash_rows_of_columns(&columns))
+}
+
+/// The words in threes, as extension elements.
+fn extension_elements(words: &[u64]) -> Vec<XFieldElement> {
+    let (threes, rest) = words.as_chunks();
+    assert!(rest.is_empty(), "extension elements are whole threes");
+    let element = |&three| XFieldElement::new(elements(three));
+    threes.iter().map(element).collect()
 }
 
 fn digests(digests: Vec<Digest>) -> Vec<Five> {
