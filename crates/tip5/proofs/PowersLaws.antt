@@ -7,12 +7,29 @@ use native.Mathlib.Numerals.{add-one}
 use native.Mathlib.Omega.{arith}
 use lib.ListN.{length, getD}
 use Rattle.numbers.specs.Lists.{tab}
+use Rattle.numbers.specs.Modulus.{P}
 use Rattle.numbers.proofs.Lists.{getD-tab₀, tab-same, tab-unique}
 use Rattle.rounds.specs.Field.{mul, power, Below}
 use Rattle.tip5.specs.Powers.{powers}
 use Rattle.rounds.proofs.FieldLaws.{mul-power, power-below, power-one}
 use Rattle.rounds.proofs.FieldUndone.{power-power}
 use Rattle.rounds.proofs.RoundLaws.{tab-below}
+
+-- a word that is a power is below P
+pub power-word : (v e : ℕ) {w : ℕ} → w ≡ power v e → w < P
+power-word v e h = subst⁻¹ (λ (n : ℕ). n < P) h (power-below v e)
+
+-- one squaring more
+pub squared-more : (v n : ℕ) {w r : ℕ} → w ≡ power v (2 ^ n) → r ≡ mul w w → r ≡ power v (2 ^ (n + 1))
+squared-more v n e e′ =
+    e′ ∙ ap₂ mul e e ∙ mul-power v (2 ^ n) (2 ^ n) ∙ ap (power v) (twice ∙ ap (λ (k : ℕ). 2 ^ k) (sym (add-one n)))
+  where
+    twice : 2 ^ n + 2 ^ n ≡ 2 ^ suc n
+    twice = omega arith
+
+-- all of them, then a product
+pub squared-all : {n m : ℕ} (v u : ℕ) {w r : ℕ} → n ≡ m → w ≡ power v (2 ^ n) → r ≡ mul w u → r ≡ mul (power v (2 ^ m)) u
+squared-all v u all e e′ = e′ ∙ ap (λ (w : ℕ). mul w u) (e ∙ ap (λ (k : ℕ). power v (2 ^ k)) all)
 
 pub powers-below : (e : ℕ) (a : List ℕ) → Below (powers e a)
 unfolding powers
@@ -30,25 +47,6 @@ powers-at e a h i u = ap (λ (l : List ℕ). getD l i 0) h ∙ getD-tab₀ 4 (λ
 pub powers-one : (a : List ℕ) → length a ≡ 4 → Below a → a ≡ powers 1 a
 unfolding powers
 powers-one a e h = sym (tab-unique a (λ k. power (getD a k 0) 1) e λ k k<. sym (power-one (h k)))
-
--- one squaring more
-pub powers-squared : (a : List ℕ) (n : ℕ) {x : List ℕ} → x ≡ powers (2 ^ n) a → tab 4 0 (λ i. mul (getD x i 0) (getD x i 0)) ≡ powers (2 ^ (n + 1)) a
-unfolding powers
-powers-squared a n e =
-    tab-same 4 0 λ i low high.
-    ap (λ (v : ℕ). mul v v) (powers-at (2 ^ n) a e i high)
-    ∙ mul-power (getD a i 0) (2 ^ n) (2 ^ n)
-    ∙ ap (power (getD a i 0)) (twice ∙ ap (λ (k : ℕ). 2 ^ k) (sym (add-one n)))
-  where
-    twice : 2 ^ n + 2 ^ n ≡ 2 ^ suc n
-    twice = omega arith
-
--- powers times other words
-pub powers-times : (a y : List ℕ) {n m : ℕ} {x : List ℕ} → n ≡ m → x ≡ powers (2 ^ n) a
-    → tab 4 0 (λ i. mul (getD x i 0) (getD y i 0)) ≡ tab 4 0 (λ i. mul (power (getD a i 0) (2 ^ m)) (getD y i 0))
-powers-times a y {n} all e =
-    tab-same 4 0 λ i low high.
-    ap (λ (v : ℕ). mul v (getD y i 0)) (powers-at (2 ^ n) a e i high ∙ ap (λ (k : ℕ). power (getD a i 0) (2 ^ k)) all)
 
 -- one link of the chain: n squarings of the j-th powers, and the k-th powers
 pub powers-accumulated : (a : List ℕ) (j k n : ℕ) {x y : List ℕ} → x ≡ powers j a → y ≡ powers k a

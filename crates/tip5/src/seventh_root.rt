@@ -9,33 +9,30 @@ ghost use Rattle.numbers.specs.Modulus.{rootExponent};
 ghost use Rattle.rounds.specs.Field.{Below, mul, power};
 ghost use Rattle.tip5.specs.Powers.{powers};
 
-// Four products side by side.
-fn products(a: [u64; 4], b: [u64; 4]) -> [u64; 4]
-    requires { ⌜ Below a × Below b ⌝ }
-    ensures { λ r. ⌜ r ≡ tab 4 0 (λ k. mul (getD a k 0) (getD b k 0)) ⌝ }
-{
-    [
-        field::mul(a[0], b[0]),
-        field::mul(a[1], b[1]),
-        field::mul(a[2], b[2]),
-        field::mul(a[3], b[3]),
-    ]
-}
-
 // The base squared `times` times, then multiplied by the tail.
 fn power_accumulator(base: [u64; 4], times: u64, tail: [u64; 4]) -> [u64; 4]
     requires { ⌜ Below base ⌝ }
     requires { ⌜ Below tail ⌝ }
     ensures { λ r. ⌜ r ≡ tab 4 0 (λ k. mul (power (getD base k 0) (2 ^ times)) (getD tail k 0)) ⌝ }
 {
-    let mut square = base;
+    let mut w = base[0];
+    let mut x = base[1];
+    let mut y = base[2];
+    let mut z = base[3];
     let mut done = 0;
     while done < times {
-        let next = products(square, square);
-        square = next;
+        w = field::mul(w, w);
+        x = field::mul(x, x);
+        y = field::mul(y, y);
+        z = field::mul(z, z);
         done += 1;
     }
-    products(square, tail)
+    [
+        field::mul(w, tail[0]),
+        field::mul(x, tail[1]),
+        field::mul(y, tail[2]),
+        field::mul(z, tail[3]),
+    ]
 }
 
 // a to the power 1 + 8 + .. + 8^10.
