@@ -7,23 +7,23 @@ use native.Mathlib.Decide.{decLt}
 use native.Mathlib.Omega.{arith}
 use borrow.Author.Tests.{le-ltb, lt-ltb}
 use lib.ListN.{drop-of-length-le, length}
-use Rattle.draws.specs.declared.DrawAnswer.{DrawAnswer}
-use Rattle.draws.specs.Answers.{drawAnswer, drawRefusal, inFront, sampleIndices, sampledSlice}
-use Rattle.draws.specs.Bound.{boundRefusal}
-use Rattle.draws.specs.Draw.{Draw, draw, nothing}
-use Rattle.draws.proofs.BoundLaws.{bound-accepted}
+use Rattle.tip5.specs.Judge.{first, unless}
+use Rattle.tip5.proofs.AnswerLaws.{unless-granted}
+use Rattle.tip5.proofs.JudgeLaws.{below-accepted}
 use Rattle.sponge.specs.declared.Domain.the-variants.{VariableLength}
 use Rattle.sponge.specs.declared.Tip5.{Tip5}
 use Rattle.sponge.specs.History.{paddedSteps}
 use Rattle.sponge.specs.Sponge.{start}
 use Rattle.sponge.proofs.HistoryLaws.{run-below}
 use Rattle.sponge.proofs.SpongeLaws.{start-below}
-use Rattle.tip5.specs.Judge.{first, unless}
-use Rattle.tip5.proofs.AnswerLaws.{unless-granted}
-use Rattle.tip5.proofs.JudgeLaws.{below-accepted}
+use Rattle.draws.specs.declared.DrawAnswer.{DrawAnswer}
+use Rattle.draws.specs.Answers.{drawAnswer, drawRefusal, inFront, sampleIndices, sampledSlice}
+use Rattle.draws.specs.Bound.{boundRefusal}
+use Rattle.draws.specs.Draw.{Draw, draw, nothing}
+use Rattle.draws.proofs.BoundLaws.{bound-accepted}
+use Rattle.lines.specs.Line.{drawLine, refusedLine}
 use Rattle.answers.specs.Answer.{drawnLine, seededBy}
 use Rattle.answers.specs.Drawn.{Drawn}
-use Rattle.lines.specs.Line.{drawLine, refusedLine}
 
 -- a draw from a seed with a bound that a sheet can name is refused by nothing but 6
 pub seed-accepted : (words : List ℕ) {log2 : ℕ} → log2 < 32 → drawRefusal (seededBy words) (2 ^ log2) ≡ 0

@@ -3,13 +3,13 @@
 use mathlib.Core.List.{List}
 use mathlib.Core.Path.{_≡_, refl, ap, sym, _∙_}
 use Prim.Native.Nat.{ℕ, zero, suc, _^_}
+use Rattle.tip5.proofs.AnswerLaws.{unless-granted, unless-refused}
 use Rattle.draws.specs.Draw.{draw}
 use Rattle.lines.specs.Line.{refusedLine}
 use Rattle.sheet.specs.declared.header.Header.{Header}
 use Rattle.sheet.specs.declared.header.HeaderAnswer.{HeaderAnswer}
 use Rattle.sheet.specs.Sheet.{headerOf, judgeSheet, sheetRefusal, wordsOf}
 use Rattle.sheet.proofs.JudgedLaws.{judged-header, judged-refusal}
-use Rattle.tip5.proofs.AnswerLaws.{unless-granted, unless-refused}
 use Rattle.answers.specs.Answer.{digestValues, drawnLine, elementsOf, jobLine, seedOf, seededBy, sheetDraw, sheetLine}
 use Rattle.answers.specs.Job.{lineBy}
 

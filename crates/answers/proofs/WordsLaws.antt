@@ -7,10 +7,10 @@ use native.Mathlib.Omega.{arith}
 use lib.ListN.{drop, length, length-append, take}
 use lib.Seq.{take-at}
 use Rattle.numbers.proofs.Lists.{length-tab}
-use Rattle.sheet.specs.declared.header.HeaderAnswer.{HeaderAnswer}
-use Rattle.sheet.specs.Sheet.{judgeSheet, readWords, value, wordsOf}
 use Rattle.rounds.specs.Field.{rawOf}
 use Rattle.tip5.specs.Judge.{wordRefusal}
+use Rattle.sheet.specs.declared.header.HeaderAnswer.{HeaderAnswer}
+use Rattle.sheet.specs.Sheet.{judgeSheet, readWords, value, wordsOf}
 use Rattle.sheet.proofs.Accepted.{words-good}
 use Rattle.sheet.proofs.JudgedLaws.{words-read}
 

@@ -4,14 +4,14 @@ use mathlib.Core.List.{List, map}
 use Prim.Native.Nat.{ℕ, zero, suc, _^_}
 use lib.Dec.{ltb}
 use lib.ListN.{length}
-use Rattle.draws.specs.Draw.{Draw, draw}
+use Rattle.rounds.specs.Field.{valueOf}
+use Rattle.tip5.specs.Judge.{unless}
 use Rattle.sponge.specs.declared.Domain.the-variants.{VariableLength}
 use Rattle.sponge.specs.declared.Tip5.{Tip5}
 use Rattle.sponge.specs.Digest.{digestOf}
 use Rattle.sponge.specs.History.{paddedSteps, run}
 use Rattle.sponge.specs.Sponge.{start}
-use Rattle.rounds.specs.Field.{valueOf}
-use Rattle.tip5.specs.Judge.{unless}
+use Rattle.draws.specs.Draw.{Draw, draw}
 use Rattle.lines.specs.Line.{digestLine, drawLine, refusedLine}
 use Rattle.sheet.specs.Sheet.{headerOf, sheetRefusal, wordsOf}
 

@@ -13,14 +13,14 @@ ghost use mathlib.Core.Path.{_≡_};
 ghost use Prim.Native.Nat.{_^_, _≤_, _<_};
 ghost use lib.ListN.{length};
 ghost use Rattle.numbers.specs.Modulus.{P};
-ghost use Rattle.draws.specs.Draw.{draw};
-ghost use Rattle.answers.specs.Answer.{drawnLine, seededBy};
-ghost use Rattle.answers.specs.Drawn.{Drawn};
-ghost use Rattle.lines.specs.Line.{digestLine, drawLine, refusedLine};
-ghost use Rattle.lines.specs.Put.{Front};
-ghost use Rattle.sponge.specs.Digest.{digestOf};
 ghost use Rattle.rounds.specs.Field.{Below, valueOf};
 ghost use Rattle.tip5.specs.Judge.{unless, wordRefusal};
+ghost use Rattle.sponge.specs.Digest.{digestOf};
+ghost use Rattle.draws.specs.Draw.{draw};
+ghost use Rattle.lines.specs.Line.{digestLine, drawLine, refusedLine};
+ghost use Rattle.lines.specs.Put.{Front};
+ghost use Rattle.answers.specs.Answer.{drawnLine, seededBy};
+ghost use Rattle.answers.specs.Drawn.{Drawn};
 
 // The value of a raw word.
 fn value(word: u64) -> u64

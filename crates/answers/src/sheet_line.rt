@@ -7,10 +7,10 @@ use sheet::read::read_sheet;
 use tip5::refusal;
 ghost use mathlib.Core.Path.{_≡_};
 ghost use Prim.Native.Nat.{_≤_, _<_};
+ghost use Rattle.tip5.specs.Judge.{wordRefusal};
+ghost use Rattle.lines.specs.Put.{Front};
 ghost use Rattle.answers.specs.Answer.{sheetLine};
 ghost use Rattle.answers.specs.Job.{lineBy};
-ghost use Rattle.lines.specs.Put.{Front};
-ghost use Rattle.tip5.specs.Judge.{wordRefusal};
 
 // The line of an accepted sheet with the header h, by its job.
 fn job_line(h: Header, words: &[u64], out: &mut [u8; 65536]) -> usize

@@ -5,16 +5,16 @@ use mathlib.Core.Path.{_≡_, refl, subst⁻¹}
 use Prim.Native.Nat.{ℕ, zero, suc, _≤_, _<_}
 use borrow.Author.Tests.{le-ltb, lt-ltb}
 use lib.ListN.{replicate}
-use Rattle.draws.specs.declared.DrawAnswer.{DrawAnswer}
-use Rattle.draws.specs.Answers.{drawAnswer, drawRefusal, foundRefusal, inFront}
-use Rattle.draws.specs.Bound.{boundRefusal}
-use Rattle.draws.specs.Draw.{Draw, nothing}
+use Rattle.tip5.specs.Judge.{unless}
+use Rattle.tip5.proofs.RefusalLaws.{none-first}
 use Rattle.sponge.specs.declared.Tip5.{Tip5}
 use Rattle.sponge.specs.Answers.{squeezeRefusal}
 use Rattle.sponge.specs.History.Step.{squeeze}
 use Rattle.sponge.specs.WalkBack.{Accepted}
-use Rattle.tip5.proofs.RefusalLaws.{none-first}
-use Rattle.tip5.specs.Judge.{unless}
+use Rattle.draws.specs.declared.DrawAnswer.{DrawAnswer}
+use Rattle.draws.specs.Answers.{drawAnswer, drawRefusal, foundRefusal, inFront}
+use Rattle.draws.specs.Bound.{boundRefusal}
+use Rattle.draws.specs.Draw.{Draw, nothing}
 use Rattle.draws.proofs.BoundLaws.{Power, accepted-bound}
 use Rattle.draws.proofs.SqueezeLaws.{squeezes-accepted}
 

@@ -7,12 +7,12 @@ use Prim.Native.Nat.{ℕ, zero, suc, _-_, _%_, _^_, _<_}
 use native.Mathlib.Nat.{mod-lt}
 use lib.Dec.{eqb}
 use lib.ListN.{length, take}
-use Rattle.draws.specs.Answers.{drawRefusal, drawn}
-use Rattle.draws.specs.Draw.{draw, drawnFrom, fromTen, fromWords, indexOf, nothing, skipped}
-use Rattle.sponge.specs.declared.Tip5.{Tip5}
-use Rattle.sponge.specs.Sponge.{rate, squeezed}
 use Rattle.rounds.specs.Field.{valueOf}
 use Rattle.tip5.specs.Judge.{unless}
+use Rattle.sponge.specs.declared.Tip5.{Tip5}
+use Rattle.sponge.specs.Sponge.{rate, squeezed}
+use Rattle.draws.specs.Answers.{drawRefusal, drawn}
+use Rattle.draws.specs.Draw.{draw, drawnFrom, fromTen, fromWords, indexOf, nothing, skipped}
 use Rattle.draws.proofs.AnswerLaws.{accepted-draw}
 use Rattle.draws.proofs.BoundLaws.{power-positive}
 

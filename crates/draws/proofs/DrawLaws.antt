@@ -8,11 +8,11 @@ use native.Mathlib.Nat.{add-assoc, add-zero, zero-add, suc-add, sub-zero}
 use native.Mathlib.Numerals.{one-add}
 use native.Mathlib.Omega.{arith}
 use lib.ListN.{length, replicate, take, length-append, length-take}
-use Rattle.draws.specs.Draw.{Draw, draw, fromTen, fromWords, joined, nothing}
 use Rattle.sponge.specs.declared.Tip5.{Tip5}
 use Rattle.sponge.specs.History.{after, run}
 use Rattle.sponge.specs.History.Step.{squeeze}
 use Rattle.sponge.specs.Sponge.{rate, squeezed}
+use Rattle.draws.specs.Draw.{Draw, draw, fromTen, fromWords, joined, nothing}
 
 -- Draws that go on
 

@@ -7,18 +7,18 @@ use native.Mathlib.Nat.{sub-zero}
 use native.Mathlib.Omega.{arith}
 use lib.ListN.{drop, length, replicate, take, length-append, take-append-drop}
 use lib.Seq.{length-take-le}
-use Rattle.draws.specs.declared.DrawAnswer.{DrawAnswer}
-use Rattle.draws.specs.Answers.{drawAnswer, foundRefusal, inFront}
-use Rattle.draws.specs.Draw.{Draw, draw, fromTen, fromWords, joined, nothing}
-use Rattle.draws.specs.Extended.{Extended}
+use Rattle.tip5.specs.Judge.{first}
+use Rattle.tip5.proofs.RefusalLaws.{first-one}
 use Rattle.sponge.specs.declared.Tip5.{Tip5}
 use Rattle.sponge.specs.Answers.{squeezeRefusal}
 use Rattle.sponge.specs.History.{after}
 use Rattle.sponge.specs.History.Step.{squeeze}
 use Rattle.sponge.specs.Sponge.{rate, squeezed}
 use Rattle.sponge.specs.WalkBack.{Accepted}
-use Rattle.tip5.specs.Judge.{first}
-use Rattle.tip5.proofs.RefusalLaws.{first-one}
+use Rattle.draws.specs.declared.DrawAnswer.{DrawAnswer}
+use Rattle.draws.specs.Answers.{drawAnswer, foundRefusal, inFront}
+use Rattle.draws.specs.Draw.{Draw, draw, fromTen, fromWords, joined, nothing}
+use Rattle.draws.specs.Extended.{Extended}
 use Rattle.draws.proofs.DrawLaws.{draw-turn, joined-assoc, joined-nothing, nothing-joined}
 use Rattle.draws.proofs.ExtendedLaws.{drop-further, extended-found}
 

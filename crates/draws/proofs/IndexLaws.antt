@@ -7,8 +7,8 @@ use native.Mathlib.Numerals.{add-one}
 use borrow.Author.Tests.{eq-eqb, ne-eqb}
 use lib.ListN.{getD, length, take}
 use lib.Seq.{take-suc}
-use Rattle.draws.specs.Draw.{drawnFrom, fromWords, indexOf, skipped}
 use Rattle.rounds.specs.Field.{valueOf}
+use Rattle.draws.specs.Draw.{drawnFrom, fromWords, indexOf, skipped}
 
 pub drawn-skipped : (bound : ℕ) {v : ℕ} → v ≡ skipped → drawnFrom bound v ≡ []
 unfolding drawnFrom

@@ -10,14 +10,14 @@ use native.Mathlib.Numerals.{one-add}
 use native.Mathlib.Omega.{arith}
 use lib.ListN.{length, take, length-append}
 use lib.Seq.{take-nil}
+use Rattle.rounds.specs.Field.{valueOf}
+use Rattle.tip5.specs.Judge.{unless}
+use Rattle.sponge.specs.declared.Tip5.{Tip5}
+use Rattle.sponge.specs.Sponge.{rate, squeezed}
 use Rattle.draws.specs.Answers.{drawRefusal, drawn, sampleIndices}
 use Rattle.draws.specs.Draw.{Draw, draw, fromTen, fromWords, indexOf, nothing, skipped}
 use Rattle.draws.specs.Source.{Loop, SourceDraw}
 use Rattle.draws.specs.Source.Loop.{full, refill, skip, push}
-use Rattle.sponge.specs.declared.Tip5.{Tip5}
-use Rattle.sponge.specs.Sponge.{rate, squeezed}
-use Rattle.rounds.specs.Field.{valueOf}
-use Rattle.tip5.specs.Judge.{unless}
 use Rattle.draws.proofs.AllowanceLaws.{accepted-all}
 use Rattle.draws.proofs.DrawLaws.{draw-none}
 use Rattle.draws.proofs.IndexLaws.{drawn-index, drawn-skipped}

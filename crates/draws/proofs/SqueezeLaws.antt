@@ -3,6 +3,9 @@
 use mathlib.Core.Path.{_≡_, ap, _∙_}
 use Prim.Native.Nat.{ℕ, zero, suc}
 use lib.ListN.{replicate}
+use Rattle.rounds.specs.Field.{Below}
+use Rattle.tip5.proofs.AnswerLaws.{unless-granted}
+use Rattle.tip5.proofs.JudgeLaws.{accepted-below, below-accepted}
 use Rattle.sponge.specs.declared.by_value.SqueezeAnswer.{SqueezeAnswer}
 use Rattle.sponge.specs.declared.Tip5.{Tip5}
 use Rattle.sponge.specs.Answers.{squeeze, squeezeRefusal}
@@ -10,9 +13,6 @@ use Rattle.sponge.specs.History.{Step, after}
 use Rattle.sponge.specs.Sponge.{rate, squeezed}
 use Rattle.sponge.specs.WalkBack.{Accepted}
 use Rattle.sponge.proofs.SpongeLaws.{rate-below, squeezed-below}
-use Rattle.tip5.proofs.AnswerLaws.{unless-granted}
-use Rattle.rounds.specs.Field.{Below}
-use Rattle.tip5.proofs.JudgeLaws.{accepted-below, below-accepted}
 
 pub squeezed-ten : {a : SqueezeAnswer} (s : Tip5) → a ≡ squeeze s → squeezeRefusal s ≡ 0 → a .ten ≡ rate s
 squeezed-ten s e none = ap (λ (a : SqueezeAnswer). a .ten) e ∙ unless-granted (rate s) (replicate 10 0) none

@@ -6,8 +6,7 @@ use mathlib.Core.Path.{_≡_, refl, ap, sym, _∙_}
 use Prim.Native.Nat.{ℕ, zero, suc, _+_, _≤_}
 use native.Mathlib.Nat.{add-suc, add-zero, le-of-suc-le-suc, not-suc-le-zero, suc-add, zero-add}
 use lib.ListN.{drop, length, replicate, take}
-use Rattle.draws.specs.Answers.{drawRefusal, drawSteps, sampleIndices}
-use Rattle.draws.specs.Draw.{draw, nothing}
+use Rattle.tip5.specs.Judge.{unless}
 use Rattle.sponge.specs.declared.step_back.StepKind.the-variants.{Squeeze}
 use Rattle.sponge.specs.declared.Tip5.{Tip5}
 use Rattle.sponge.specs.Answers.{granted}
@@ -15,7 +14,8 @@ use Rattle.sponge.specs.History.{after, run}
 use Rattle.sponge.specs.History.Step.{squeeze}
 use Rattle.sponge.specs.WalkBack.{Accepted, AllKept, Kept, walk}
 use Rattle.sponge.proofs.WalkBack.{walk-back, walk-back-to}
-use Rattle.tip5.specs.Judge.{unless}
+use Rattle.draws.specs.Answers.{drawRefusal, drawSteps, sampleIndices}
+use Rattle.draws.specs.Draw.{draw, nothing}
 use Rattle.draws.proofs.AnswerLaws.{accepted-draw}
 use Rattle.draws.proofs.DrawLaws.{draw-sponge, draw-squeezes}
 

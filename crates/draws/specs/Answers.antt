@@ -5,14 +5,14 @@ use mathlib.Core.List.{List, [], _∷_, _++_}
 use Prim.Native.Nat.{ℕ}
 use lib.Dec.{ltb}
 use lib.ListN.{drop, length, replicate}
-use Rattle.draws.specs.declared.DrawAnswer.{DrawAnswer}
-use Rattle.draws.specs.Bound.{boundRefusal}
-use Rattle.draws.specs.Draw.{Draw, draw, nothing}
+use Rattle.tip5.specs.Judge.{first, unless}
 use Rattle.sponge.specs.declared.Tip5.{Tip5}
 use Rattle.sponge.specs.Answers.{squeezeRefusal}
 use Rattle.sponge.specs.History.{Step}
 use Rattle.sponge.specs.History.Step.{squeeze}
-use Rattle.tip5.specs.Judge.{first, unless}
+use Rattle.draws.specs.declared.DrawAnswer.{DrawAnswer}
+use Rattle.draws.specs.Bound.{boundRefusal}
+use Rattle.draws.specs.Draw.{Draw, draw, nothing}
 
 -- the refusals with which nothing is drawn
 abbrev pub drawRefusal : Tip5 → (bound : ℕ) → ℕ

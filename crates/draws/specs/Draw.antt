@@ -5,9 +5,9 @@ use Prim.Native.Nat.{ℕ, zero, suc, _+_, _-_, _%_, _^_}
 use lib.Dec.{eqb}
 use lib.ListN.{length, take}
 use Rattle.numbers.specs.Modulus.{P}
+use Rattle.rounds.specs.Field.{valueOf}
 use Rattle.sponge.specs.declared.Tip5.{Tip5}
 use Rattle.sponge.specs.Sponge.{rate, squeezed}
-use Rattle.rounds.specs.Field.{valueOf}
 
 -- the value that draws nothing: P - 1
 abbrev pub skipped : ℕ

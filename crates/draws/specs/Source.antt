@@ -2,10 +2,10 @@
 use mathlib.Core.List.{List, [], _∷_}
 use mathlib.Core.Path.{_≡_}
 use Prim.Native.Nat.{ℕ, suc}
-use Rattle.draws.specs.Draw.{Draw, indexOf, nothing, skipped}
+use Rattle.rounds.specs.Field.{valueOf}
 use Rattle.sponge.specs.declared.Tip5.{Tip5}
 use Rattle.sponge.specs.Sponge.{rate, squeezed}
-use Rattle.rounds.specs.Field.{valueOf}
+use Rattle.draws.specs.Draw.{Draw, indexOf, nothing, skipped}
 
 -- the loop ends, and comes to a draw: with this many indices still wanted, this rest of the buffer, and this sponge
 pub data Loop (bound : ℕ) : (wanted : ℕ) (buffer : List ℕ) → Tip5 → Draw → Type 0 where

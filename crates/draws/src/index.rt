@@ -4,10 +4,10 @@ use tip5::b_field_element::Value;
 ghost use mathlib.Core.Path.{_≡_};
 ghost use Prim.Native.Nat.{_≤_, _<_};
 ghost use lib.ListN.{length};
-ghost use Rattle.draws.specs.Draw.{drawnFrom, fromWords, indexOf};
-ghost use Rattle.draws.specs.Extended.{Extended};
 ghost use Rattle.numbers.specs.Modulus.{P};
 ghost use Rattle.rounds.specs.Field.{Below, valueOf};
+ghost use Rattle.draws.specs.Draw.{drawnFrom, fromWords, indexOf};
+ghost use Rattle.draws.specs.Extended.{Extended};
 
 // The value that draws nothing: P - 1.
 const SKIPPED: u64 = 18446744069414584320;

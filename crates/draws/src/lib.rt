@@ -12,10 +12,10 @@ use tip5::refusal;
 ghost use mathlib.Core.Path.{_≡_};
 ghost use Prim.Native.Nat.{_<_};
 ghost use lib.ListN.{length, replicate};
-ghost use Rattle.draws.specs.Answers.{drawAnswer, drawRefusal, inFront, sampleIndices, sampledSlice};
-ghost use Rattle.draws.specs.Draw.{draw};
 ghost use Rattle.sponge.specs.History.Step.{squeeze};
 ghost use Rattle.sponge.specs.WalkBack.{Accepted};
+ghost use Rattle.draws.specs.Answers.{drawAnswer, drawRefusal, inFront, sampleIndices, sampledSlice};
+ghost use Rattle.draws.specs.Draw.{draw};
 
 // A refusal or 0, how many indices were found, how many squeezes were made, and the next sponge. Refused 1 or 3 it holds
 // zeros and the sponge that went in; refused 6 it holds both counts and the sponge after the whole allowance.

@@ -10,18 +10,18 @@ use prog.Memory.{Memory}
 use prog.Routine.{Routine}
 use prog.Wp.{Heap}
 use denote.Ref.{now}
-use Rattle.outcomes.specs.Outcome.{OneOutcome}
-use Rattle.outcomes.proofs.Same.{both, same}
-use Rattle.draws.specs.declared.DrawAnswer.{DrawAnswer}
-use Rattle.sponge.specs.InPlace.{leaving}
 use Rattle.sponge.specs.declared.Tip5.{Tip5}
 use Rattle.sponge.specs.declared.by_value.SpongeAnswer.{SpongeAnswer}
 use Rattle.sponge.specs.declared.by_value.SqueezeAnswer.{SqueezeAnswer}
+use Rattle.sponge.specs.InPlace.{leaving}
 use Rattle.sponge.proofs.Tip5.absorb as absorb
 use Rattle.sponge.proofs.Tip5.pad_and_absorb_all as pad-and-absorb-all
 use Rattle.sponge.proofs.Tip5.step_back as step-back
 use Rattle.sponge.proofs.Tip5.squeeze as squeeze
+use Rattle.draws.specs.declared.DrawAnswer.{DrawAnswer}
 use Rattle.draws.proofs.in_place.sample_indices as sample-indices
+use Rattle.outcomes.specs.Outcome.{OneOutcome}
+use Rattle.outcomes.proofs.Same.{both, same}
 
 -- of three calls, the refusal that is returned and the record that is left
 left : {m n : ℕ} {s t : Tip5} {z : SpongeAnswer} → leaving m s ≡ z → leaving n t ≡ z → (m ≡ n) × (s ≡ t)

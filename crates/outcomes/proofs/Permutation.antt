@@ -1,19 +1,19 @@
 -- No second outcome: the permutation, its rounds, the way back and the exports.
 -- Assumes nothing.
 use denote.Ref.{now}
-use Rattle.outcomes.specs.Outcome.{OneAnswer, OneExit}
-use Rattle.outcomes.proofs.Same.{same}
 use Rattle.tip5.proofs.permutation.permutation.Reads as permutation
 use Rattle.tip5.proofs.permutation.round.Reads as round
+use Rattle.tip5.proofs.inverse.inv_permutation.Reads as inv-permutation
+use Rattle.tip5.proofs.inverse.inv_round.Reads as inv-round
 use Rattle.states.proofs.trace.trace.Reads as trace
 use Rattle.states.proofs.in_place.permute.Reads as permute
 use Rattle.states.proofs.in_place.permute_round.Reads as permute-round
-use Rattle.tip5.proofs.inverse.inv_permutation.Reads as inv-permutation
-use Rattle.tip5.proofs.inverse.inv_round.Reads as inv-round
 use Rattle.states.proofs.in_place.inv_permute.Reads as inv-permute
 use Rattle.states.proofs.in_place.inv_permute_round.Reads as inv-permute-round
 use Rattle.tip5_c.proofs.tip5_permutation.Reads as tip5-permutation
 use Rattle.tip5_c.proofs.tip5_inverse_permutation.Reads as tip5-inverse-permutation
+use Rattle.outcomes.specs.Outcome.{OneAnswer, OneExit}
+use Rattle.outcomes.proofs.Same.{same}
 
 pub permutation-once : OneAnswer permutation.Learnt
 permutation-once κs a x y e f h k = same h k

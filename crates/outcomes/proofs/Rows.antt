@@ -9,15 +9,15 @@ use prog.Memory.{Memory}
 use prog.Routine.{Routine}
 use prog.Wp.{Heap}
 use denote.Ref.{now}
-use Rattle.outcomes.specs.Outcome.{OneAnswer, OneExit, OneOutcome}
-use Rattle.outcomes.proofs.Same.{both, same}
 use Rattle.rows.proofs.column.row_count.Reads as row-count
 use Rattle.rows.proofs.column.entry.Reads as entry
 use Rattle.rows.proofs.hash_rows.hash_rows_of_columns.Reads as hash-rows-of-columns
-use Rattle.draws.proofs.sample_indices.Reads as sample-indices
 use Rattle.rows.proofs.column.column_entry as column-entry
 use Rattle.rows.proofs.column.Column.num_rows as num-rows
 use Rattle.rows.proofs.column.Column.get as get
+use Rattle.draws.proofs.sample_indices.Reads as sample-indices
+use Rattle.outcomes.specs.Outcome.{OneAnswer, OneExit, OneOutcome}
+use Rattle.outcomes.proofs.Same.{both, same}
 
 pub row-count-once : OneAnswer row-count.Learnt
 row-count-once κs a x y e f h k = same h k

@@ -1,8 +1,6 @@
 -- No second outcome: the calls of lines, sheet and answers.
 -- Assumes nothing.
 use denote.Ref.{now}
-use Rattle.outcomes.specs.Outcome.{OneAnswer, OneExit}
-use Rattle.outcomes.proofs.Same.{same}
 use Rattle.lines.proofs.digest_line.Reads as digest-line
 use Rattle.lines.proofs.draw_line.Reads as draw-line
 use Rattle.lines.proofs.refused_line.Reads as refused-line
@@ -10,6 +8,8 @@ use Rattle.sheet.proofs.header.read_header.Reads as read-header
 use Rattle.sheet.proofs.judge.judge_sheet.Reads as judge-sheet
 use Rattle.sheet.proofs.read.read_sheet.Reads as read-sheet
 use Rattle.answers.proofs.sheet_line.sheet_line.Reads as sheet-line
+use Rattle.outcomes.specs.Outcome.{OneAnswer, OneExit}
+use Rattle.outcomes.proofs.Same.{same}
 
 -- Lines
 

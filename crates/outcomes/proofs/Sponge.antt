@@ -1,7 +1,5 @@
 -- No second outcome: the sponge by value, the digests and one step back.
 -- Assumes nothing.
-use Rattle.outcomes.specs.Outcome.{OneAnswer}
-use Rattle.outcomes.proofs.Same.{same}
 use Rattle.sponge.proofs.Tip5.new.Reads as new
 use Rattle.sponge.proofs.Tip5.init.Reads as init
 use Rattle.sponge.proofs.Tip5.hash_10.Reads as hash-10
@@ -11,6 +9,8 @@ use Rattle.sponge.proofs.by_value.absorb.Reads as absorb
 use Rattle.sponge.proofs.by_value.squeeze.Reads as squeeze
 use Rattle.sponge.proofs.by_value.pad_and_absorb_all.Reads as pad-and-absorb-all
 use Rattle.sponge.proofs.step_back.step_back.Reads as step-back
+use Rattle.outcomes.specs.Outcome.{OneAnswer}
+use Rattle.outcomes.proofs.Same.{same}
 
 pub new-once : OneAnswer new.Learnt
 new-once κs a x y e f h k = same h k

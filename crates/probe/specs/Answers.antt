@@ -2,18 +2,18 @@
 -- in the room that it was lent for the answer.
 use mathlib.Core.List.{List}
 use Prim.Native.Nat.{ℕ}
-use Rattle.draws.specs.declared.DrawAnswer.{DrawAnswer}
-use Rattle.rows.specs.declared.column.CountAnswer.{CountAnswer}
-use Rattle.rows.specs.declared.column.EntryAnswer.{EntryAnswer}
+use Rattle.tip5.specs.declared.b_field_element.ElementAnswer.{ElementAnswer}
+use Rattle.tip5.specs.declared.b_field_element.ValueAnswer.{ValueAnswer}
+use Rattle.tip5.specs.declared.b_field_element.WordAnswer.{WordAnswer}
+use Rattle.tip5.specs.Element.{elementOf}
+use Rattle.states.specs.declared.trace.TraceAnswer.{TraceAnswer}
 use Rattle.sponge.specs.declared.by_value.SpongeAnswer.{SpongeAnswer}
 use Rattle.sponge.specs.declared.by_value.SqueezeAnswer.{SqueezeAnswer}
 use Rattle.sponge.specs.declared.digest.DigestAnswer.{DigestAnswer}
 use Rattle.sponge.specs.declared.Tip5.{Tip5}
-use Rattle.tip5.specs.Element.{elementOf}
-use Rattle.tip5.specs.declared.b_field_element.ElementAnswer.{ElementAnswer}
-use Rattle.tip5.specs.declared.b_field_element.ValueAnswer.{ValueAnswer}
-use Rattle.tip5.specs.declared.b_field_element.WordAnswer.{WordAnswer}
-use Rattle.states.specs.declared.trace.TraceAnswer.{TraceAnswer}
+use Rattle.rows.specs.declared.column.CountAnswer.{CountAnswer}
+use Rattle.rows.specs.declared.column.EntryAnswer.{EntryAnswer}
+use Rattle.draws.specs.declared.DrawAnswer.{DrawAnswer}
 
 -- The field and the permutation
 

@@ -3,8 +3,8 @@
 use tip5::b_field_element::BFieldElement;
 use tip5::b_field_element::Value;
 ghost use mathlib.Core.Path.{_≡_};
-ghost use Rattle.tip5.specs.Element.{elementOf, fromRaw, rawWord, value as valueGiven, sum, difference, product, modPow};
 ghost use Rattle.rounds.specs.Field.{rawOf};
+ghost use Rattle.tip5.specs.Element.{elementOf, fromRaw, rawWord, value as valueGiven, sum, difference, product, modPow};
 ghost use Rattle.probe.specs.Answers.{elementAnswer, valueAnswer, wordAnswer};
 
 #[no_mangle]

@@ -9,8 +9,8 @@ use sponge::Tip5;
 use sponge::step_back::StepKind;
 ghost use mathlib.Core.Path.{_≡_};
 ghost use lib.ListN.{length};
-ghost use Rattle.draws.specs.Answers.{sampleIndices, sampledSlice};
 ghost use Rattle.sponge.specs.Answers.{absorb, padAndAbsorbAll, squeeze, stepBack};
+ghost use Rattle.draws.specs.Answers.{sampleIndices, sampledSlice};
 ghost use Rattle.probe.specs.Answers.{drawAnswer, spongeAnswer, spongeOf, squeezeAnswer};
 
 #[no_mangle]

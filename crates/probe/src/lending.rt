@@ -8,8 +8,8 @@ use sponge::by_value::SqueezeAnswer;
 use sponge::step_back::StepKind;
 ghost use mathlib.Core.Path.{_≡_};
 ghost use lib.ListN.{length};
-ghost use Rattle.draws.specs.Answers.{sampleIndices, sampledSlice};
 ghost use Rattle.sponge.specs.Answers.{absorb, padAndAbsorbAll, squeeze, stepBack};
+ghost use Rattle.draws.specs.Answers.{sampleIndices, sampledSlice};
 
 pub(crate) fn lent_to_absorb(sponge: Tip5, ten: &[u64]) -> SpongeAnswer
     ensures { λ r. ⌜ r ≡ absorb sponge (now (ten .entry)) ⌝ }

@@ -6,11 +6,11 @@ ghost use Prim.Native.Nat.{_*_, _%_, _^_};
 ghost use Rattle.numbers.specs.Lists.{tab};
 ghost use Rattle.numbers.specs.Circulant.{rowSum};
 ghost use Rattle.matrix.specs.Column.{mdsColumn};
+ghost use Rattle.rounds.specs.Round.{permuted};
+ghost use Rattle.rounds.specs.Round as Round;
 ghost use Rattle.tip5.specs.Judge.{unless};
 ghost use Rattle.states.specs.InPlace.{roundSliceRefusal, sliceRefusal};
 ghost use Rattle.states.specs.Trace as Trace;
-ghost use Rattle.rounds.specs.Round.{permuted};
-ghost use Rattle.rounds.specs.Round as Round;
 ghost use Rattle.probe.specs.Answers.{traceAnswer};
 
 #[no_mangle]

@@ -11,7 +11,6 @@ use native.Mathlib.Omega.{arith}
 use borrow.Author.Tests.{eq-eqb, ne-eqb}
 use lib.Dec.{T, eqb, eqb→eq}
 use lib.ListN.{length, getD}
-use Rattle.matrix.specs.Column.{mdsColumn}
 use Rattle.numbers.specs.Circulant.{entry, rowSum}
 use Rattle.numbers.specs.Congruence.{Cong}
 use Rattle.numbers.specs.Lists.{total}
@@ -19,6 +18,7 @@ use Rattle.numbers.specs.Modulus.{P}
 use Rattle.numbers.proofs.Table.{each, each-at}
 use Rattle.numbers.proofs.Congruence.{cong-eq, cong-mod, cong-mul, cong-refl, cong-remainder, cong-sym, cong-total, cong-trans}
 use Rattle.numbers.proofs.Lists.{getD-tab₀, tab-unique, total-exchange, total-mul, total-mul-right, total-same}
+use Rattle.matrix.specs.Column.{mdsColumn}
 use Rattle.rounds.specs.Constants.{invMdsColumn}
 use Rattle.rounds.specs.Round.{circulant}
 use Rattle.rounds.specs.Field.{Below}

@@ -14,8 +14,8 @@ use Rattle.numbers.specs.Modulus.{P}
 use Rattle.numbers.proofs.Lists.{getD-tab-all}
 use Rattle.rounds.specs.Inverse.{invPermuted, invRound, invSbox, invSboxLayer, subtractConstants, invRounds}
 use Rattle.rounds.specs.Round.{addConstants, circulant, constant, permuted, round, rounds, sbox, sboxLayer}
-use Rattle.rounds.proofs.FieldLaws.{add-below, power-below, rawOf-below, sub-below}
 use Rattle.rounds.specs.Field.{Below}
+use Rattle.rounds.proofs.FieldLaws.{add-below, power-below, rawOf-below, sub-below}
 use Rattle.rounds.proofs.LookupLaws.{invLookup-below, lookup-below}
 
 -- a list that is made by a function into numbers below P

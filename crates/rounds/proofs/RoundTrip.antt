@@ -10,8 +10,8 @@ use Rattle.matrix.specs.Column.{mdsColumn}
 use Rattle.rounds.specs.Constants.{invMdsColumn}
 use Rattle.rounds.specs.Inverse.{invPermuted, invRound, invSboxLayer, subtractConstants, invRounds}
 use Rattle.rounds.specs.Round.{addConstants, circulant, permuted, round, rounds, sboxLayer}
-use Rattle.rounds.proofs.CirculantLaws.{invMds-mds, mds-invMds}
 use Rattle.rounds.specs.Field.{Below}
+use Rattle.rounds.proofs.CirculantLaws.{invMds-mds, mds-invMds}
 use Rattle.rounds.proofs.LayersUndone.{addConstants-subtractConstants, invSboxLayer-sboxLayer, sboxLayer-invSboxLayer, subtractConstants-addConstants}
 use Rattle.rounds.proofs.RoundLaws.{
   circulant-below,

@@ -4,10 +4,10 @@ use mathlib.Core.List.{List}
 use Prim.Native.Nat.{ℕ, zero, suc, _+_, _-_, _*_, _/_, _%_, _^_}
 use lib.Dec.{ltb}
 use lib.ListN.{getD}
-use Rattle.matrix.specs.Column.{mdsColumn}
 use Rattle.numbers.specs.Circulant.{rowSum}
 use Rattle.numbers.specs.Lists.{tab, total}
 use Rattle.numbers.specs.Modulus.{P}
+use Rattle.matrix.specs.Column.{mdsColumn}
 use Rattle.rounds.specs.Constants.{roundConstants}
 use Rattle.rounds.specs.Field.{add, power, rawOf}
 

@@ -4,13 +4,13 @@ use mathlib.Core.List.{List}
 use mathlib.Core.Path.{_≡_, ap, _∙_}
 use Prim.Native.Nat.{ℕ}
 use lib.ListN.{length}
+use Rattle.rounds.specs.Field.{Below}
+use Rattle.tip5.proofs.AnswerLaws.{unless-granted}
 use Rattle.sponge.specs.declared.by_value.SpongeAnswer.{SpongeAnswer}
 use Rattle.sponge.specs.declared.Tip5.{Tip5}
 use Rattle.sponge.specs.Answers.{absorb}
 use Rattle.sponge.specs.Sponge.{absorbed}
 use Rattle.sponge.proofs.AcceptedLaws.{absorb-accepted}
-use Rattle.tip5.proofs.AnswerLaws.{unless-granted}
-use Rattle.rounds.specs.Field.{Below}
 
 -- the sponge that it answers
 pub absorb-granted : {a : SpongeAnswer} (s : Tip5) (ten : List ℕ) → a ≡ absorb s ten → length ten ≡ 10 → Below (s .state) → Below ten

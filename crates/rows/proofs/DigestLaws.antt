@@ -6,15 +6,15 @@ use Prim.Native.Nat.{ℕ, _+_, _*_, _≤_}
 use native.Mathlib.Omega.{arith}
 use lib.ListN.{drop, length, take, length-append, length-drop, drop-of-length-le}
 use lib.Seq.{paste}
-use Rattle.rows.specs.declared.row.Shape.{Shape}
-use Rattle.rows.specs.Table.{digestsIn, rowIn}
-use Rattle.rows.proofs.JoinedLaws.{joined-length, joined-paste}
 use Rattle.sponge.specs.declared.Domain.the-variants.{VariableLength}
 use Rattle.sponge.specs.declared.Tip5.{Tip5}
 use Rattle.sponge.specs.Digest.{digest, digestOf}
 use Rattle.sponge.specs.History.{paddedSteps, run}
 use Rattle.sponge.specs.Sponge.{start}
 use Rattle.sponge.proofs.DigestLaws.{digestOf-length}
+use Rattle.rows.specs.declared.row.Shape.{Shape}
+use Rattle.rows.specs.Table.{digestsIn, rowIn}
+use Rattle.rows.proofs.JoinedLaws.{joined-length, joined-paste}
 
 -- the digest is the first five words of the sponge that absorbed the list
 digestOf-take : (ws : List ℕ) {s : Tip5} → s ≡ run (paddedSteps ws) (start VariableLength) → take 5 (s .state) ≡ digestOf ws

@@ -9,13 +9,13 @@ use native.Mathlib.Omega.{arith}
 use borrow.Author.Tests.{lt-ltb}
 use lib.ListN.{drop, getD, length, take, length-drop}
 use lib.Seq.{getD-drop, getD-take, length-take-le}
+use Rattle.rounds.specs.Field.{Below}
+use Rattle.sponge.proofs.BelowLaws.{drop-below, take-below}
+use Rattle.sponge.proofs.ListLaws.{part-of}
 use Rattle.rows.specs.declared.row.Shape.{Shape}
 use Rattle.rows.specs.Column.{entry, wordAt}
 use Rattle.rows.specs.Rows.{columnOf, entryOf, row}
 use Rattle.rows.specs.Table.{Table, columnIn, entryIn, rowIn}
-use Rattle.sponge.proofs.BelowLaws.{drop-below, take-below}
-use Rattle.sponge.proofs.ListLaws.{part-of}
-use Rattle.rounds.specs.Field.{Below}
 use Rattle.rows.proofs.JoinedLaws.{joined-at, joined-below, joined-length}
 
 -- n words from place a on are n where so many are there

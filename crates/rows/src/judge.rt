@@ -6,8 +6,8 @@ use tip5::refusal;
 ghost use mathlib.Core.Path.{_≡_};
 ghost use Prim.Native.Nat.{_*_, _<_};
 ghost use lib.Dec.{eqb};
-ghost use Rattle.rows.specs.Rows.{digestCount, rowsRefusal, sizeRefusal, widthRefusal};
 ghost use Rattle.tip5.specs.Judge.{lengthRefusal};
+ghost use Rattle.rows.specs.Rows.{digestCount, rowsRefusal, sizeRefusal, widthRefusal};
 
 // Whether n is a * b as whole numbers: by division, since the product may be longer than a word.
 fn is_product(n: usize, a: usize, b: usize) -> bool

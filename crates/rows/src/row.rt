@@ -9,11 +9,11 @@ ghost use Prim.Native.Nat.{_+_, _*_, _≤_, _<_};
 ghost use lib.ListN.{drop, getD, length, replicate};
 ghost use lib.Seq.{paste};
 ghost use Rattle.rounds.specs.Field.{Below};
-ghost use Rattle.rows.specs.Table.{Table, entryIn, rowIn};
 ghost use Rattle.sponge.specs.declared.Domain.the-variants.{VariableLength};
 ghost use Rattle.sponge.specs.History.{paddedSteps, run};
 ghost use Rattle.sponge.specs.Padding.{lastTen};
 ghost use Rattle.sponge.specs.Sponge as Sponge;
+ghost use Rattle.rows.specs.Table.{Table, entryIn, rowIn};
 
 // How the words of a table lie: columns one after another, each of `rows` entries of `width` words.
 pub(crate) struct Shape {

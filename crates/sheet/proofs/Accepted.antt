@@ -9,9 +9,9 @@ use lib.ListN.{length}
 use Rattle.numbers.specs.Lists.{tab}
 use Rattle.numbers.proofs.Tests.{passed}
 use Rattle.rounds.specs.Field.{rawOf}
-use Rattle.tip5.specs.Judge.{wordRefusal}
 use Rattle.rounds.proofs.FieldLaws.{rawOf-below}
 use Rattle.rounds.proofs.RoundLaws.{tab-below}
+use Rattle.tip5.specs.Judge.{wordRefusal}
 use Rattle.tip5.proofs.JudgeLaws.{below-accepted}
 use Rattle.tip5.proofs.RefusalLaws.{none-refuses}
 use Rattle.sheet.specs.Sheet.{elementLimit, fieldRefusals, headerOf, refusals, sheetRefusal, value, valueRefusal, wordsOf}

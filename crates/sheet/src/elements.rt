@@ -5,8 +5,8 @@ use tip5::b_field_element::Value;
 ghost use mathlib.Core.Path.{_≡_};
 ghost use Prim.Native.Nat.{_+_, _*_, _≤_};
 ghost use lib.ListN.{length};
-ghost use Rattle.sheet.specs.Sheet as Sheet;
 ghost use Rattle.rounds.specs.Field.{rawOf};
+ghost use Rattle.sheet.specs.Sheet as Sheet;
 
 // The value of element i, whose eight bytes the sheet has.
 pub(crate) fn value(sheet: &[u8], i: usize) -> u64

@@ -9,8 +9,8 @@ use tip5::refusal;
 ghost use mathlib.Core.Path.{_≡_};
 ghost use Prim.Native.Nat.{_+_, _*_, _^_, _<_};
 ghost use lib.ListN.{drop, length};
-ghost use Rattle.sheet.specs.Sheet.{fieldRefusal, judgeSheet, refusals, valueRefusal};
 ghost use Rattle.tip5.specs.Judge.{first};
+ghost use Rattle.sheet.specs.Sheet.{fieldRefusal, judgeSheet, refusals, valueRefusal};
 
 // The most elements that a sheet may have.
 const ELEMENT_LIMIT: usize = 4096;

@@ -4,13 +4,13 @@ use mathlib.Core.List.{List, [], _∷_}
 use mathlib.Core.Path.{_≡_, refl}
 use Prim.Native.Nat.{ℕ}
 use lib.ListN.{length}
+use Rattle.rounds.specs.Field.{Below}
+use Rattle.tip5.specs.Judge.{lengthRefusal, wordRefusal}
+use Rattle.tip5.proofs.JudgeLaws.{accepted-below, below-accepted}
+use Rattle.tip5.proofs.RefusalLaws.{accepted-length, first-none, length-accepted, none-first}
 use Rattle.sponge.specs.declared.step_back.StepKind.the-variants.{Squeeze}
 use Rattle.sponge.specs.declared.Tip5.{Tip5}
 use Rattle.sponge.specs.Answers.{absorbRefusal, hash10Refusal, hashPairRefusal, padRefusal, stepBackRefusal}
-use Rattle.tip5.specs.Judge.{lengthRefusal, wordRefusal}
-use Rattle.rounds.specs.Field.{Below}
-use Rattle.tip5.proofs.JudgeLaws.{accepted-below, below-accepted}
-use Rattle.tip5.proofs.RefusalLaws.{accepted-length, first-none, length-accepted, none-first}
 
 pub accepted-pad : (s : Tip5) (input : List ℕ) → padRefusal s input ≡ 0 → Below (s .state) × Below input
 accepted-pad s input e =

@@ -3,15 +3,15 @@
 use mathlib.Core.List.{List}
 use mathlib.Core.Path.{_≡_, ap, sym, _∙_}
 use Prim.Native.Nat.{ℕ}
-use Rattle.sponge.specs.declared.by_value.SqueezeAnswer.{SqueezeAnswer}
-use Rattle.sponge.specs.declared.digest.DigestAnswer.{DigestAnswer}
-use Rattle.sponge.specs.declared.Tip5.{Tip5}
+use Rattle.rounds.specs.Field.{Below}
 use Rattle.tip5.specs.declared.permutation.StateAnswer.{StateAnswer}
 use Rattle.tip5.specs.Judge.{unless, wordRefusal}
 use Rattle.tip5.specs.Permutation.{nextState}
 use Rattle.tip5.proofs.AnswerLaws.{unless-granted, unless-refused}
-use Rattle.rounds.specs.Field.{Below}
 use Rattle.tip5.proofs.JudgeLaws.{below-accepted}
+use Rattle.sponge.specs.declared.by_value.SqueezeAnswer.{SqueezeAnswer}
+use Rattle.sponge.specs.declared.digest.DigestAnswer.{DigestAnswer}
+use Rattle.sponge.specs.declared.Tip5.{Tip5}
 
 abbrev pub digestAnswer : ℕ → List ℕ → DigestAnswer
 digestAnswer n d = record { refusal = n; digest = d }

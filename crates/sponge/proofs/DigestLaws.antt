@@ -5,13 +5,13 @@ use mathlib.Core.Path.{_≡_}
 use Prim.Native.Nat.{ℕ}
 use native.Mathlib.Omega.{arith}
 use lib.ListN.{getD, length, length-take}
+use Rattle.numbers.specs.Lists.{tab}
+use Rattle.rounds.specs.Field.{Below}
 use Rattle.sponge.specs.declared.Domain.the-variants.{VariableLength, FixedLength}
 use Rattle.sponge.specs.declared.Tip5.{Tip5}
 use Rattle.sponge.specs.Digest.{digest, digestOf, digestOfPair, digestOfTen}
 use Rattle.sponge.specs.History.{paddedSteps}
 use Rattle.sponge.specs.Sponge.{start}
-use Rattle.numbers.specs.Lists.{tab}
-use Rattle.rounds.specs.Field.{Below}
 use Rattle.sponge.proofs.BelowLaws.{take-below}
 use Rattle.sponge.proofs.HistoryLaws.{run-below, run-length}
 use Rattle.sponge.proofs.ListLaws.{tab-take}

@@ -4,6 +4,7 @@ use mathlib.Core.List.{List, [], _∷_, map}
 use mathlib.Core.Path.{_≡_, ap, _∙_}
 use Prim.Native.Nat.{ℕ, _+_, _/_, _≤_, _<_}
 use lib.ListN.{drop, length, take, length-map}
+use Rattle.rounds.specs.Field.{Below}
 use Rattle.sponge.specs.declared.Tip5.{Tip5}
 use Rattle.sponge.specs.Answers.{padRefusal}
 use Rattle.sponge.specs.History.{Step, after, paddedSteps, run}
@@ -11,7 +12,6 @@ use Rattle.sponge.specs.History.Step.{squeeze, absorb}
 use Rattle.sponge.specs.Padding.{lastTen, padded}
 use Rattle.sponge.specs.Sponge.{absorbed}
 use Rattle.sponge.specs.WalkBack.{Accepted}
-use Rattle.rounds.specs.Field.{Below}
 use Rattle.sponge.proofs.AcceptedLaws.{absorb-accepted, accepted-pad}
 use Rattle.sponge.proofs.PaddingLaws.{Tens, padded-last, padded-length, padded-more, padded-tens}
 use Rattle.sponge.proofs.SpongeLaws.{absorbed-below, absorbed-length, squeezed-below, squeezed-length}

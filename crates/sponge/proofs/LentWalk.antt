@@ -1,6 +1,10 @@
 -- One walk by hand for every function `f(sponge: &mut Tip5, words: &[u64]) -> u8` that copies the record out, makes a call g by
 -- value on it and the words, puts the answered record back whole and returns the refusal. All that it knows of g is what g answers.
 -- Assumes nothing.
+use mir.Syntax.{Name, Fn, local as declares, valueLocal, tyInt, tyRef, imm, mut, place, deref, field, copy, rvOpd, seq, assign, call, return}
+use denote.Memory.{pointee}
+use denote.Slice.{sliceTy}
+use denote.Struct.Laws as LL
 use Rattle.walks.proofs.Names.{_≡_, refl, ℕ, List, [], _∷_, length, URA, named, w8, w64, Val, vptr, id⊢, Lft, Share, ftrue, flft, Heap, Calls, Loops, Atoms}
 use Rattle.walks.proofs.Names.{FmC, Given, ‵, raw, _⊛_, _$_, _∵_, !, qed, by, move, keep, drop, use1, split3, join, fsplit, fsplit3, fjoin}
 use Rattle.walks.proofs.Names.{look, init, of-opd, and-then, no-more, returns, enter, alloc1, alloc0, params1, pass1, pass0, free0, u8, u64, Is, owned}
@@ -9,13 +13,9 @@ use Rattle.walks.proofs.Names.{Model, Routines, Running, GhostRules, givenOf, t
 use Rattle.walks.proofs.Names.{slice-vals, shr-slice-tells, Lends, left-behind}
 use Rattle.walks.proofs.Names.{Bound, onEntry, Triple, Answer, Ended, Stated, Slot, yes, WalkLeaving, asks, copies-out, field-of, frees-at, lands-spelt, lets}
 use Rattle.walks.proofs.Names.{local, puts-back}
-use mir.Syntax.{Name, Fn, local as declares, valueLocal, tyInt, tyRef, imm, mut, place, deref, field, copy, rvOpd, seq, assign, call, return}
-use denote.Memory.{pointee}
-use denote.Slice.{sliceTy}
-use denote.Struct.Laws as LL
-use Rattle.sponge.specs.InPlace.{leaving}
 use Rattle.sponge.specs.declared.by_value.SpongeAnswer.{SpongeAnswer}
 use Rattle.sponge.specs.declared.Tip5.{Tip5}
+use Rattle.sponge.specs.InPlace.{leaving}
 use Rattle.sponge.proofs.Tip5 as S
 use Rattle.sponge.proofs.Tip5.Laws as S′
 use Rattle.sponge.proofs.by_value.SpongeAnswer as N

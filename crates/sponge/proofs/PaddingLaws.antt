@@ -6,9 +6,9 @@ use Prim.Native.Nat.{ℕ, zero, suc, _+_, _-_, _/_, _≤_, _<_}
 use native.Mathlib.Omega.{arith}
 use lib.Dec.{lit<}
 use lib.ListN.{drop, length, replicate, take, length-append, length-drop, length-replicate, length-take}
+use Rattle.rounds.specs.Field.{Below}
 use Rattle.sponge.specs.Padding.{lastTen, padded, tens}
 use Rattle.sponge.specs.Sponge.{one}
-use Rattle.rounds.specs.Field.{Below}
 use Rattle.sponge.proofs.BelowLaws.{append-below, cons-below, drop-below, replicate-below, take-below}
 
 -- an input of ten words or more

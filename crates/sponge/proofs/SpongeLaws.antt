@@ -6,15 +6,15 @@ use Prim.Native.Nat.{ℕ}
 use native.Mathlib.Omega.{arith}
 use lib.ListN.{drop, getD, length, replicate, take, length-append, length-drop, length-take, take-append-drop}
 use lib.Seq.{drop-at}
+use Rattle.numbers.specs.Lists.{tab}
+use Rattle.rounds.specs.Field.{Below}
+use Rattle.rounds.proofs.RoundLaws.{permuted-below, permuted-length}
+use Rattle.rounds.proofs.RoundTrip.{invPermuted-permuted}
+use Rattle.tip5.proofs.JudgeLaws.{allBelow-below}
 use Rattle.sponge.specs.declared.Domain.{Domain}
 use Rattle.sponge.specs.declared.Domain.the-variants.{VariableLength, FixedLength}
 use Rattle.sponge.specs.declared.Tip5.{Tip5}
 use Rattle.sponge.specs.Sponge.{absorbed, one, overwrite, permute, rate, squeezed, start, unabsorbed, unpermute, unsqueezed}
-use Rattle.numbers.specs.Lists.{tab}
-use Rattle.rounds.specs.Field.{Below}
-use Rattle.tip5.proofs.JudgeLaws.{allBelow-below}
-use Rattle.rounds.proofs.RoundLaws.{permuted-below, permuted-length}
-use Rattle.rounds.proofs.RoundTrip.{invPermuted-permuted}
 use Rattle.sponge.proofs.BelowLaws.{append-below, drop-below, take-below}
 use Rattle.sponge.proofs.ListLaws.{tab-take}
 

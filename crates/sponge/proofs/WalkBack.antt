@@ -5,6 +5,8 @@ use mathlib.Core.List.{List, [], _∷_, reverse, reverseAux}
 use mathlib.Core.Path.{_≡_, refl, ap, ap₂, _∙_}
 use Prim.Native.Nat.{ℕ, zero, suc}
 use lib.ListN.{drop, length, replicate, take}
+use Rattle.tip5.specs.Judge.{unless}
+use Rattle.tip5.proofs.JudgeLaws.{accepted-below}
 use Rattle.sponge.specs.declared.by_value.SpongeAnswer.{SpongeAnswer}
 use Rattle.sponge.specs.declared.step_back.StepKind.{StepKind}
 use Rattle.sponge.specs.declared.step_back.StepKind.the-variants.{Squeeze, Absorb}
@@ -14,8 +16,6 @@ use Rattle.sponge.specs.History.{Step, after, paddedSteps, run}
 use Rattle.sponge.specs.History.Step.{squeeze, absorb}
 use Rattle.sponge.specs.Sponge.{absorbed, rate, squeezed}
 use Rattle.sponge.specs.WalkBack.{Accepted, AllKept, Keeps, Kept, stepRefusal, walk}
-use Rattle.tip5.specs.Judge.{unless}
-use Rattle.tip5.proofs.JudgeLaws.{accepted-below}
 use Rattle.sponge.proofs.AcceptedLaws.{accepted-absorb, places-accepted, absorb-accepted}
 use Rattle.sponge.proofs.HistoryLaws.{after-length, padded-accepted}
 use Rattle.sponge.proofs.SpongeLaws.{absorbed-below, rate-below, rate-length, squeezed-below, unabsorbed-absorbed, unsqueezed-squeezed}

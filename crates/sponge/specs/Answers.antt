@@ -3,6 +3,7 @@
 use mathlib.Core.List.{List, [], _∷_}
 use Prim.Native.Nat.{ℕ}
 use lib.ListN.{replicate}
+use Rattle.tip5.specs.Judge.{first, lengthRefusal, unless, wordRefusal}
 use Rattle.sponge.specs.declared.by_value.SpongeAnswer.{SpongeAnswer}
 use Rattle.sponge.specs.declared.by_value.SqueezeAnswer.{SqueezeAnswer}
 use Rattle.sponge.specs.declared.digest.DigestAnswer.{DigestAnswer}
@@ -12,7 +13,6 @@ use Rattle.sponge.specs.declared.Tip5.{Tip5}
 use Rattle.sponge.specs.Digest.{digestOf, digestOfPair, digestOfTen}
 use Rattle.sponge.specs.History.{paddedSteps, run}
 use Rattle.sponge.specs.Sponge.{absorbed, rate, squeezed, unabsorbed, unsqueezed}
-use Rattle.tip5.specs.Judge.{first, lengthRefusal, unless, wordRefusal}
 
 -- What is refused: each list has the refusals in their order
 

@@ -2,11 +2,11 @@
 use mathlib.Core.List.{List, _++_}
 use Prim.Native.Nat.{ℕ}
 use lib.ListN.{drop, replicate, take}
+use Rattle.rounds.specs.Inverse.{invPermuted}
+use Rattle.rounds.specs.Round.{permuted}
 use Rattle.sponge.specs.declared.Domain.{Domain}
 use Rattle.sponge.specs.declared.Domain.the-variants.{VariableLength, FixedLength}
 use Rattle.sponge.specs.declared.Tip5.{Tip5}
-use Rattle.rounds.specs.Inverse.{invPermuted}
-use Rattle.rounds.specs.Round.{permuted}
 
 -- the raw word of value 1
 abbrev pub one : ℕ

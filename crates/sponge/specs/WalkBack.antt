@@ -3,6 +3,7 @@ use mathlib.Core.List.{List, [], _∷_}
 use mathlib.Core.Path.{_≡_}
 use Prim.Native.Nat.{ℕ}
 use lib.ListN.{length}
+use Rattle.tip5.specs.Judge.{unless}
 use Rattle.sponge.specs.declared.by_value.SpongeAnswer.{SpongeAnswer}
 use Rattle.sponge.specs.declared.step_back.StepKind.{StepKind}
 use Rattle.sponge.specs.declared.step_back.StepKind.the-variants.{Squeeze, Absorb}
@@ -11,7 +12,6 @@ use Rattle.sponge.specs.Answers.{absorbRefusal, granted, squeezeRefusal,
 use Rattle.sponge.specs.History.{Step, after}
 use Rattle.sponge.specs.History.Step.{squeeze, absorb}
 use Rattle.sponge.specs.Sponge.{rate}
-use Rattle.tip5.specs.Judge.{unless}
 
 -- the refusal of the call that makes a step
 abbrev pub stepRefusal : Step → Tip5 → ℕ

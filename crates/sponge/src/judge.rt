@@ -5,9 +5,9 @@ use crate::Tip5;
 use tip5::judge::judge_words;
 use tip5::refusal;
 ghost use mathlib.Core.Path.{_≡_};
+ghost use Rattle.tip5.specs.Judge.{lengthRefusal, wordRefusal};
 ghost use Rattle.sponge.specs.declared.step_back.StepKind.the-variants.{Squeeze};
 ghost use Rattle.sponge.specs.Answers.{absorbRefusal, hash10Refusal, hashPairRefusal, padRefusal, stepBackRefusal};
-ghost use Rattle.tip5.specs.Judge.{lengthRefusal, wordRefusal};
 
 // Refusal 2 where there are not as many words as wanted.
 fn judge_length(wanted: usize, words: &[u64]) -> u8

@@ -5,7 +5,6 @@ use mathlib.Core.Path.{_≡_, sym, ap, ap₂, _∙_}
 use Prim.Native.Nat.{ℕ, suc, _<_}
 use borrow.Author.Tests.{ne-eqb}
 use lib.ListN.{length}
-use Rattle.states.specs.InPlace.{roundSliceRefusal, sliceRefusal}
 use Rattle.tip5.specs.declared.permutation.StateAnswer.{StateAnswer}
 use Rattle.tip5.specs.declared.permutation.Way.{Way}
 use Rattle.tip5.specs.Judge.{unless}
@@ -13,6 +12,7 @@ use Rattle.tip5.specs.Moves.{moved, roundOf}
 use Rattle.tip5.specs.Permutation.{nextState}
 use Rattle.tip5.proofs.RefusalLaws.{round-accepted}
 use Rattle.tip5.proofs.MovesLaws.{moved-round}
+use Rattle.states.specs.InPlace.{roundSliceRefusal, sliceRefusal}
 
 -- a slice that is not sixteen words
 pub slice-refused : (s : List ℕ) → (length s ≡ 16 → ⊥) → sliceRefusal s ≡ 2

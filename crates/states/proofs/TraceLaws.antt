@@ -6,7 +6,6 @@ use Prim.Native.Nat.{ℕ, suc, _-_, _/_, _%_, _<_}
 use native.Mathlib.Decide.{ℕ-discrete}
 use native.Mathlib.Omega.{arith}
 use borrow.Author.Tests.{eq-eqb, ne-eqb}
-use Rattle.states.specs.Entering.{entering}
 use Rattle.rounds.specs.Field.{Below}
 use Rattle.rounds.specs.Round.{round, rounds}
 use Rattle.tip5.specs.Judge.{wordRefusal}
@@ -14,6 +13,7 @@ use Rattle.tip5.specs.Permutation.{oneRound}
 use Rattle.tip5.proofs.AnswerLaws.{unless-granted}
 use Rattle.tip5.proofs.RefusalLaws.{round-accepted}
 use Rattle.tip5.proofs.JudgeLaws.{below-accepted}
+use Rattle.states.specs.Entering.{entering}
 
 -- the state that a call for one round answers, where it is not refused
 pub round-granted : {i : ℕ} (s : List ℕ) → i < 5 → Below s → oneRound i s .state ≡ round i s

@@ -4,8 +4,8 @@ use Prim.Native.Nat.{ℕ, _/_, _%_}
 use lib.ListN.{getD}
 use Rattle.numbers.specs.Lists.{tab}
 use Rattle.rounds.specs.Round.{rounds}
-use Rattle.states.specs.declared.trace.TraceAnswer.{TraceAnswer}
 use Rattle.tip5.specs.Judge.{unless, wordRefusal}
+use Rattle.states.specs.declared.trace.TraceAnswer.{TraceAnswer}
 
 -- the entry state and that after each round, one after another
 unfoldable pub sixStates : List ℕ → List ℕ

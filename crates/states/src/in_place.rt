@@ -13,9 +13,9 @@ ghost use lib.ListN.{length};
 ghost use Rattle.rounds.specs.Inverse.{invPermuted, invRound};
 ghost use Rattle.rounds.specs.Round.{permuted};
 ghost use Rattle.rounds.specs.Round as Round;
-ghost use Rattle.states.specs.InPlace.{roundSliceRefusal, sliceRefusal};
 ghost use Rattle.tip5.specs.Judge.{unless};
 ghost use Rattle.tip5.specs.Moves.{moved, movedAnswer, roundOf};
+ghost use Rattle.states.specs.InPlace.{roundSliceRefusal, sliceRefusal};
 
 // Round 0 to 4 or, for 5, all five.
 fn forth(which: usize, state: [u64; 16]) -> StateAnswer

@@ -7,11 +7,11 @@ use native.Mathlib.Nat.{div-add-mod', div-lt-iff-lt-mul, mod-lt}
 use native.Mathlib.Omega.{arith}
 use lib.Dec.{lit<}
 use lib.ListN.{getD}
-use Rattle.matrix.specs.Column.{mdsColumn}
-use Rattle.matrix.proofs.Small.{generated-exact, generated-sixteenth}
 use Rattle.numbers.specs.Circulant.{rowSum}
 use Rattle.numbers.specs.Lists.{tab, total}
 use Rattle.numbers.proofs.Lists.{getD-tab-all, total-add, total-mul-right, total-same}
+use Rattle.matrix.specs.Column.{mdsColumn}
+use Rattle.matrix.proofs.Small.{generated-exact, generated-sixteenth}
 
 -- the lower and the upper half of each word
 abbrev pub lower : List ℕ → List ℕ

@@ -10,9 +10,9 @@ use Rattle.numbers.specs.Modulus.{P}
 use Rattle.numbers.proofs.Congruence.{cong-mod, cong-sym, cong-trans}
 use Rattle.numbers.proofs.Lists.{getD-tab₀, tab-same}
 use Rattle.rounds.specs.Field.{add}
-use Rattle.tip5.specs.Reduced.{reduced}
 use Rattle.rounds.specs.Round.{addConstants, circulant, constant}
 use Rattle.rounds.proofs.FieldLaws.{add-cong}
+use Rattle.tip5.specs.Reduced.{reduced}
 use Rattle.tip5.proofs.ReducedLaws.{reduced-cong}
 
 pub mended-layer : (i : ℕ) (column s : List ℕ) → addConstants i (tab 16 0 (λ r. reduced (rowSum column s r))) ≡ addConstants i (circulant column s)

@@ -10,10 +10,10 @@ use Rattle.numbers.specs.Lists.{tab}
 use Rattle.numbers.specs.Modulus.{P}
 use Rattle.numbers.proofs.Lists.{getD-tab₀, tab-same, tab-unique}
 use Rattle.rounds.specs.Field.{mul, power, Below}
-use Rattle.tip5.specs.Powers.{powers}
 use Rattle.rounds.proofs.FieldLaws.{mul-power, power-below, power-one}
 use Rattle.rounds.proofs.FieldUndone.{power-power}
 use Rattle.rounds.proofs.RoundLaws.{tab-below}
+use Rattle.tip5.specs.Powers.{powers}
 
 -- a word that is a power is below P
 pub power-word : (v e : ℕ) {w : ℕ} → w ≡ power v e → w < P

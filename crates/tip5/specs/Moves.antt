@@ -3,13 +3,13 @@ use mathlib.Core.Bool.{cond}
 use mathlib.Core.List.{List, [], _∷_}
 use Prim.Native.Nat.{ℕ}
 use lib.Dec.{ltb}
+use Rattle.rounds.specs.Inverse.{invPermuted, invRound}
+use Rattle.rounds.specs.Round.{permuted, round}
 use Rattle.tip5.specs.declared.permutation.StateAnswer.{StateAnswer}
 use Rattle.tip5.specs.declared.permutation.Way.{Way}
 use Rattle.tip5.specs.declared.permutation.Way.the-variants.{Forth, Back}
-use Rattle.rounds.specs.Inverse.{invPermuted, invRound}
 use Rattle.tip5.specs.Judge.{first, wordRefusal}
 use Rattle.tip5.specs.Permutation.{nextState, roundRefusal}
-use Rattle.rounds.specs.Round.{permuted, round}
 
 abbrev pub roundOf : Way → (i : ℕ) → List ℕ → List ℕ
 roundOf Forth i s = round i s

@@ -4,10 +4,10 @@ use mathlib.Core.Bool.{cond}
 use mathlib.Core.List.{List, [], _∷_}
 use Prim.Native.Nat.{ℕ}
 use lib.Dec.{ltb}
-use Rattle.tip5.specs.declared.permutation.StateAnswer.{StateAnswer}
-use Rattle.tip5.specs.Judge.{first, unless, wordRefusal}
 use Rattle.rounds.specs.Inverse.{invPermuted, invRound}
 use Rattle.rounds.specs.Round.{permuted, round}
+use Rattle.tip5.specs.declared.permutation.StateAnswer.{StateAnswer}
+use Rattle.tip5.specs.Judge.{first, unless, wordRefusal}
 
 -- refusal 8 for a round that there is not
 abbrev pub roundRefusal : (i : ℕ) → ℕ

@@ -4,10 +4,10 @@ use crate::field;
 use crate::refusal;
 ghost use mathlib.Core.Path.{_≡_};
 ghost use Prim.Native.Nat.{_<_};
-ghost use Rattle.tip5.specs.Element.{element, elementOf, fromRaw, rawWord, value, sum, difference, product, modPow};
 ghost use mathlib.Core.List.{[], _∷_};
 ghost use Rattle.numbers.specs.Modulus.{P};
 ghost use Rattle.rounds.specs.Field.{rawOf};
+ghost use Rattle.tip5.specs.Element.{element, elementOf, fromRaw, rawWord, value, sum, difference, product, modPow};
 ghost use Rattle.tip5.specs.Operations.{combination};
 
 // A plain value. Any u64 may stand here.

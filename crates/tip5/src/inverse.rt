@@ -10,11 +10,11 @@ use rounds::tables;
 ghost use mathlib.Core.Path.{_≡_};
 ghost use Prim.Native.Nat.{_<_, _≤_};
 ghost use Rattle.rounds.specs.Field.{Below};
-ghost use Rattle.tip5.specs.Permutation.{invOneRound, invPermutation};
 ghost use Rattle.rounds.specs.Inverse.{invPermuted, invRound};
 ghost use Rattle.rounds.specs.InverseTables.{invLookupTable, rawInvColumn};
-ghost use Rattle.tip5.specs.Moves.{moved};
 ghost use Rattle.rounds.specs.Tables.{rawConstants};
+ghost use Rattle.tip5.specs.Permutation.{invOneRound, invPermutation};
+ghost use Rattle.tip5.specs.Moves.{moved};
 
 fn inv_round_with(
     table: &[u8; 256],

@@ -5,16 +5,16 @@ use words::sum::overflowing_add;
 ghost use mathlib.Core.Path.{_≡_};
 ghost use Prim.Native.Nat.{_+_, _*_, _/_, _%_, _^_, _<_};
 ghost use lib.ListN.{getD};
-ghost use Rattle.matrix.specs.Column.{mdsColumn};
 ghost use Rattle.numbers.specs.Circulant.{rowSum};
 ghost use Rattle.numbers.specs.Fill.{Filled};
 ghost use Rattle.numbers.specs.Lists.{tab, total};
 ghost use Rattle.numbers.specs.Modulus.{P};
-ghost use Rattle.tip5.specs.Element.{elementOf};
+ghost use Rattle.matrix.specs.Column.{mdsColumn};
 ghost use Rattle.rounds.specs.Field.{Below, power};
-ghost use Rattle.tip5.specs.Reduced.{reduced};
 ghost use Rattle.rounds.specs.Tables.{lookupTable, rawConstants};
 ghost use Rattle.rounds.specs.Round.{addConstants, bytewise, sboxLayer};
+ghost use Rattle.tip5.specs.Element.{elementOf};
+ghost use Rattle.tip5.specs.Reduced.{reduced};
 
 fn wide(byte: u8) -> u64
     ensures { λ r. ⌜ (r ≡ byte) × (r < 256) ⌝ }

@@ -7,13 +7,13 @@ use rounds::tables;
 ghost use mathlib.Core.Path.{_≡_};
 ghost use Prim.Native.Nat.{_<_, _≤_};
 ghost use Rattle.rounds.specs.Field.{Below};
+ghost use Rattle.rounds.specs.Round.{permuted};
+ghost use Rattle.rounds.specs.Round as Round;
+ghost use Rattle.rounds.specs.Tables.{lookupTable, rawConstants};
 ghost use Rattle.tip5.specs.Moves.{movedAnswer, roundAnswer};
 ghost use Rattle.tip5.specs.Moves as Moves;
 ghost use Rattle.tip5.specs.Permutation.{oneRound};
 ghost use Rattle.tip5.specs.Permutation as Permutation;
-ghost use Rattle.rounds.specs.Round.{permuted};
-ghost use Rattle.rounds.specs.Round as Round;
-ghost use Rattle.rounds.specs.Tables.{lookupTable, rawConstants};
 
 // A refusal or 0, and the next state, or the state that went in where the call is refused.
 pub struct StateAnswer {

@@ -12,8 +12,8 @@ use tip5::refusal;
 ghost use mathlib.Core.Path.{_≡_};
 ghost use lib.ListN.{length};
 ghost use Rattle.rounds.specs.Inverse.{invPermuted};
-ghost use Rattle.tip5.specs.Judge.{unless};
 ghost use Rattle.rounds.specs.Round.{permuted};
+ghost use Rattle.tip5.specs.Judge.{unless};
 ghost use Rattle.tip5_c.specs.Bytes.{bytesOf};
 ghost use Rattle.tip5_c.specs.Export.{after, bytesRefusal};
 

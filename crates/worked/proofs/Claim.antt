@@ -2,13 +2,13 @@
 -- Assumes nothing.
 use mathlib.Core.List.{map}
 use mathlib.Core.Path.{_≡_, refl}
-use Rattle.draws.specs.Draw.{drawnFrom, indexOf}
 use Rattle.numbers.specs.Circulant.{rowSum}
 use Rattle.rounds.specs.Constants.{roundConstants}
 use Rattle.rounds.specs.Field.{add, rawOf}
-use Rattle.tip5.specs.Reduced.{folded, reduced}
 use Rattle.rounds.specs.Round.{bytewise, circulant, lookup, lookupByte}
 use Rattle.rounds.specs.Tables.{rawConstants}
+use Rattle.tip5.specs.Reduced.{folded, reduced}
+use Rattle.draws.specs.Draw.{drawnFrom, indexOf}
 use Rattle.worked.specs.Cases.{Case, table}
 
 pub worked-cases : map (λ (c : Case). c .given) table ≡ map (λ (c : Case). c .worked) table

@@ -1,14 +1,14 @@
 -- The worked cases that are marked to be proved, and the raw words of five values: what each definition gives beside what was worked by hand.
 use mathlib.Core.List.{List, [], _∷_, map}
 use Prim.Native.Nat.{ℕ}
-use Rattle.draws.specs.Draw.{drawnFrom}
-use Rattle.matrix.specs.Column.{mdsColumn}
 use Rattle.numbers.specs.Lists.{tab}
 use Rattle.numbers.specs.Modulus.{P}
+use Rattle.matrix.specs.Column.{mdsColumn}
 use Rattle.rounds.specs.Field.{add, rawOf}
-use Rattle.tip5.specs.Reduced.{reduced}
 use Rattle.rounds.specs.Round.{circulant, lookup, lookupByte}
 use Rattle.rounds.specs.Tables.{rawConstants}
+use Rattle.tip5.specs.Reduced.{reduced}
+use Rattle.draws.specs.Draw.{drawnFrom}
 
 pub record Case : Type 0 where
   pub given : List ℕ

@@ -6,10 +6,10 @@ use Prim.Native.Nat.{ℕ, _+_, _-_, _≤_, _<_}
 use native.Mathlib.Omega.{arith}
 use borrow.Author.Needs.{needs}
 use lib.ListN.{length}
+use Rattle.rounds.specs.Field.{Below}
+use Rattle.sponge.specs.declared.Tip5.{Tip5}
 use Rattle.draws.specs.Draw.{draw, fromWords}
 use Rattle.draws.specs.Extended.{Extended}
-use Rattle.sponge.specs.declared.Tip5.{Tip5}
-use Rattle.rounds.specs.Field.{Below}
 use Rattle.draws.proofs.DrawLaws.{draw-none, draw-spent}
 use Rattle.draws.proofs.AnswerLaws.{all-found, missing-found}
 use Rattle.draws.proofs.SqueezeLaws.{squeezed-sponge, squeezed-ten, ten-below}

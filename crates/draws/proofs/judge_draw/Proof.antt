@@ -1,9 +1,9 @@
 -- `judge_draw` meets its contract.
 -- Assumes nothing.
 use mathlib.Core.List.{[], _∷_}
-use Rattle.draws.specs.Bound.{boundRefusal}
-use Rattle.tip5.proofs.RefusalLaws.{first-ends, first-stops}
 use borrow.Author.Needs.{needs}
+use Rattle.tip5.proofs.RefusalLaws.{first-ends, first-stops}
+use Rattle.draws.specs.Bound.{boundRefusal}
 use Rattle.draws.proofs.judge_draw.Statement.{statement}
 use Rattle.draws.proofs.judge_draw.Tie as tie
 

@@ -2,11 +2,11 @@
 -- Assumes nothing.
 use mathlib.Core.Path.{sym, _∙_}
 use lib.ListN.{length}
+use borrow.Author.Needs.{needs}
 use Rattle.draws.specs.Answers.{drawRefusal}
 use Rattle.draws.specs.Draw.{draw}
 use Rattle.draws.proofs.AnswerLaws.{accepted-draw, sampled-granted, sampled-refused}
 use Rattle.draws.proofs.BoundLaws.{power-positive}
-use borrow.Author.Needs.{needs}
 use Rattle.draws.proofs.sample_indices.Statement.{statement}
 use Rattle.draws.proofs.sample_indices.Tie as tie
 

@@ -1,8 +1,8 @@
 -- `hand_out` meets its contract.
 -- Assumes nothing.
 use mathlib.Core.Path.{refl, sym, _∙_}
-use Rattle.tip5.proofs.AnswerLaws.{unless-granted, unless-refused}
 use borrow.Author.Needs.{needs}
+use Rattle.tip5.proofs.AnswerLaws.{unless-granted, unless-refused}
 use Rattle.tip5_c.proofs.hand_out.Statement.{statement}
 use Rattle.tip5_c.proofs.hand_out.Tie as tie
 

@@ -1,10 +1,10 @@
 -- `tip5_permutation` meets its contract.
 -- Assumes nothing.
 use mathlib.Core.Path.{ap, _∙_}
-use Rattle.tip5.specs.Permutation.{permutation}
-use Rattle.rounds.specs.Round.{permuted}
-use Rattle.tip5_c.proofs.ExportLaws.{answered, wrong-length}
 use borrow.Author.Needs.{needs}
+use Rattle.rounds.specs.Round.{permuted}
+use Rattle.tip5.specs.Permutation.{permutation}
+use Rattle.tip5_c.proofs.ExportLaws.{answered, wrong-length}
 use Rattle.tip5_c.proofs.tip5_permutation.Statement.{statement}
 use Rattle.tip5_c.proofs.tip5_permutation.Tie as tie
 

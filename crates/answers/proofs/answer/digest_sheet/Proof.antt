@@ -1,9 +1,9 @@
 -- `answer::digest_sheet` meets its contract.
 -- Assumes nothing.
 use mathlib.Core.Path.{ap}
+use borrow.Author.Needs.{needs}
 use Rattle.lines.specs.Line.{digestLine}
 use Rattle.lines.proofs.PutLaws.{front-same}
-use borrow.Author.Needs.{needs}
 use Rattle.answers.proofs.answer.digest_sheet.Statement.{statement}
 use Rattle.answers.proofs.answer.digest_sheet.Tie as tie
 

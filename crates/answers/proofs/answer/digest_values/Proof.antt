@@ -4,14 +4,14 @@ use mathlib.Core.List.{List, map}
 use mathlib.Core.Path.{_≡_, ap, subst⁻¹, _∙_}
 use Prim.Native.Nat.{ℕ}
 use lib.ListN.{replicate}
+use borrow.Author.Needs.{needs}
+use Rattle.rounds.specs.Field.{valueOf, Below}
+use Rattle.tip5.specs.Judge.{wordRefusal}
+use Rattle.tip5.proofs.AnswerLaws.{unless-granted}
 use Rattle.sponge.specs.declared.digest.DigestAnswer.{DigestAnswer}
 use Rattle.sponge.specs.Answers.{hashVarlen}
 use Rattle.sponge.specs.Digest.{digestOf}
 use Rattle.sponge.proofs.DigestLaws.{digestOf-below}
-use Rattle.rounds.specs.Field.{valueOf, Below}
-use Rattle.tip5.specs.Judge.{wordRefusal}
-use Rattle.tip5.proofs.AnswerLaws.{unless-granted}
-use borrow.Author.Needs.{needs}
 use Rattle.answers.proofs.answer.digest_values.Statement.{statement}
 use Rattle.answers.proofs.answer.digest_values.Tie as tie
 

@@ -3,10 +3,10 @@
 use mathlib.Core.Path.{ap, sym, subst}
 use Prim.Native.Nat.{ℕ, _^_, _≤_}
 use lib.Seq.{length-take-le}
+use borrow.Author.Needs.{needs}
 use Rattle.draws.specs.Draw.{draw}
 use Rattle.lines.proofs.PutLaws.{front-same}
 use Rattle.answers.specs.Answer.{drawnLine, seededBy}
-use borrow.Author.Needs.{needs}
 use Rattle.answers.proofs.answer.draw_sheet.Statement.{statement}
 use Rattle.answers.proofs.answer.draw_sheet.Tie as tie
 

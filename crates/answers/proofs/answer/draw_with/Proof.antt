@@ -1,8 +1,8 @@
 -- `answer::draw_with` meets its contract.
 -- Assumes nothing.
-use Rattle.answers.proofs.DrawnLaws.{drawn-line-of}
-use Rattle.lines.proofs.PutLaws.{front-same}
 use borrow.Author.Needs.{needs}
+use Rattle.lines.proofs.PutLaws.{front-same}
+use Rattle.answers.proofs.DrawnLaws.{drawn-line-of}
 use Rattle.answers.proofs.answer.draw_with.Statement.{statement}
 use Rattle.answers.proofs.answer.draw_with.Tie as tie
 

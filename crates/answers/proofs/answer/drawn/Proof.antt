@@ -1,8 +1,8 @@
 -- `answer::drawn` meets its contract.
 -- Assumes nothing.
+use borrow.Author.Needs.{needs}
 use Rattle.numbers.proofs.Tests.{shifted-one}
 use Rattle.answers.proofs.DrawnLaws.{drawn-granted, seed-accepted}
-use borrow.Author.Needs.{needs}
 use Rattle.answers.proofs.answer.drawn.Statement.{statement}
 use Rattle.answers.proofs.answer.drawn.Tie as tie
 

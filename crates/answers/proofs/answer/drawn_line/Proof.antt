@@ -1,11 +1,11 @@
 -- `answer::drawn_line` meets its contract.
 -- Assumes nothing.
 use mathlib.Core.Path.{sym, _∙_}
+use borrow.Author.Needs.{needs}
 use Rattle.tip5.proofs.AnswerLaws.{unless-granted, unless-refused}
 use Rattle.lines.specs.Line.{drawLine, refusedLine}
 use Rattle.lines.proofs.LineLaws.{draw-bounded}
 use Rattle.lines.proofs.PutLaws.{front-same}
-use borrow.Author.Needs.{needs}
 use Rattle.answers.proofs.answer.drawn_line.Statement.{statement}
 use Rattle.answers.proofs.answer.drawn_line.Tie as tie
 

@@ -1,17 +1,17 @@
 -- `answer::seeded` meets its contract.
 -- Assumes nothing.
 use mathlib.Core.Path.{ap, _∙_}
+use borrow.Author.Needs.{needs}
+use Rattle.tip5.specs.Judge.{wordRefusal}
+use Rattle.tip5.proofs.AnswerLaws.{unless-granted}
+use Rattle.tip5.proofs.RefusalLaws.{first-one}
 use Rattle.sponge.specs.declared.by_value.SpongeAnswer.{SpongeAnswer}
 use Rattle.sponge.specs.declared.Domain.the-variants.{VariableLength}
 use Rattle.sponge.specs.declared.Tip5.{Tip5}
 use Rattle.sponge.specs.Answers.{padAndAbsorbAll}
 use Rattle.sponge.specs.History.{paddedSteps, run}
 use Rattle.sponge.specs.Sponge.{start}
-use Rattle.tip5.specs.Judge.{wordRefusal}
-use Rattle.tip5.proofs.AnswerLaws.{unless-granted}
-use Rattle.tip5.proofs.RefusalLaws.{first-one}
 use Rattle.answers.specs.Answer.{seededBy}
-use borrow.Author.Needs.{needs}
 use Rattle.answers.proofs.answer.seeded.Statement.{statement}
 use Rattle.answers.proofs.answer.seeded.Tie as tie
 

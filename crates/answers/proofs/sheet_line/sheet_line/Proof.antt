@@ -3,6 +3,7 @@
 use mathlib.Core.List.{List}
 use mathlib.Core.Path.{_≡_, ap, _∙_}
 use Prim.Native.Nat.{ℕ}
+use borrow.Author.Needs.{needs}
 use Rattle.lines.proofs.PutLaws.{front-same}
 use Rattle.sheet.specs.declared.header.HeaderAnswer.{HeaderAnswer}
 use Rattle.sheet.specs.Sheet.{judgeSheet}
@@ -10,7 +11,6 @@ use Rattle.sheet.proofs.JudgedLaws.{judged-fields}
 use Rattle.answers.specs.Job.{lineBy}
 use Rattle.answers.proofs.SheetLineLaws.{line-by, line-refused}
 use Rattle.answers.proofs.WordsLaws.{part-good, part-length, part-room, words-part}
-use borrow.Author.Needs.{needs}
 use Rattle.answers.proofs.sheet_line.sheet_line.Statement.{statement}
 use Rattle.answers.proofs.sheet_line.sheet_line.Tie as tie
 

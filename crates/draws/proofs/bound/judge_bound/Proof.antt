@@ -4,8 +4,8 @@ use mathlib.Core.Bool.{Bool, cond}
 use mathlib.Core.Path.{_≡_, ap, refl, sym, _∙_}
 use Prim.Native.Nat.{ℕ, suc, _-_, _≤_}
 use native.Mathlib.Omega.{arith}
-use Rattle.draws.specs.Bound.{powerBelow}
 use Rattle.numbers.proofs.Tests.{shifted-one}
+use Rattle.draws.specs.Bound.{powerBelow}
 use Rattle.draws.proofs.BoundLaws.{test-ends, test-further, test-here}
 use Rattle.draws.proofs.bound.judge_bound.Statement.{statement}
 use Rattle.draws.proofs.bound.judge_bound.Tie as tie

@@ -2,6 +2,7 @@
 -- it with the lent slice handed on for good, the answered record is put back whole, and the counts are returned. All that the
 -- proof knows of the draw by value is that it meets its contract.
 -- Assumes nothing.
+use denote.Struct.Laws as LL
 use Rattle.walks.proofs.Names.{_≡_, refl, ℕ, List, [], _∷_, length, URA, named, erased, w32, w64, Val, vint, vptr, id⊢, Lft, Share, ftrue, fres, flft, Heap}
 use Rattle.walks.proofs.Names.{Calls, Loops, Atoms, FmC, givenOf, tables, Given, ‵, raw, _⊛_, _$_, _∵_, !, qed, by, move, keep, drop, use1, split3, join}
 use Rattle.walks.proofs.Names.{fsplit, fsplit3, fjoin}
@@ -10,14 +11,13 @@ use Rattle.walks.proofs.Names.{params1, pass1, pass0, free0, u32, u64, Is, owne
 use Rattle.walks.proofs.Names.{sliceVal, slice-vals, mut-slice-tells, mut-slice-lawful}
 use Rattle.walks.proofs.Names.{Bound, Args, Vals, flat, typesAt, onEntry, Triple, cited, Promise, Promised, WalkTo, closed, calls, copies-out, field-of}
 use Rattle.walks.proofs.Names.{frees-at, lands-spelt, lets, local, puts-back}
-use denote.Struct.Laws as LL
-use Rattle.draws.specs.Answers.{sampleIndices, sampledSlice}
-use Rattle.draws.specs.InPlace.{leavingCounts}
-use Rattle.draws.specs.declared.DrawAnswer.{DrawAnswer}
-use Rattle.draws.specs.declared.in_place.CountsAnswer.{CountsAnswer}
 use Rattle.sponge.specs.declared.Tip5.{Tip5}
 use Rattle.sponge.proofs.Tip5 as S
 use Rattle.sponge.proofs.Tip5.Laws as S′
+use Rattle.draws.specs.declared.DrawAnswer.{DrawAnswer}
+use Rattle.draws.specs.declared.in_place.CountsAnswer.{CountsAnswer}
+use Rattle.draws.specs.Answers.{sampleIndices, sampledSlice}
+use Rattle.draws.specs.InPlace.{leavingCounts}
 use Rattle.draws.proofs.DrawAnswer as N
 use Rattle.draws.proofs.DrawAnswer.Laws as N′
 use Rattle.draws.proofs.in_place.CountsAnswer as R

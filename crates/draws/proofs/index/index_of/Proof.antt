@@ -1,8 +1,8 @@
 -- `index::index_of` meets its contract.
 -- Assumes nothing.
 use mathlib.Core.Path.{refl}
-use Rattle.draws.specs.Draw.{indexOf}
 use borrow.Author.Needs.{needs}
+use Rattle.draws.specs.Draw.{indexOf}
 use Rattle.draws.proofs.index.index_of.Statement.{statement}
 use Rattle.draws.proofs.index.index_of.Tie as tie
 

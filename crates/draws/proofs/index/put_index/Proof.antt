@@ -5,13 +5,13 @@ use mathlib.Core.Path.{_≡_, ap, subst⁻¹, sym, _∙_}
 use Prim.Native.Nat.{ℕ, _+_}
 use native.Mathlib.Omega.{arith}
 use lib.ListN.{set}
+use borrow.Author.Needs.{needs}
+use Rattle.rounds.specs.Field.{valueOf}
+use Rattle.tip5.proofs.AnswerLaws.{value-answered}
 use Rattle.draws.specs.Draw.{drawnFrom, indexOf}
 use Rattle.draws.specs.Extended.{Extended}
 use Rattle.draws.proofs.ExtendedLaws.{extended-full, extended-none, extended-one}
 use Rattle.draws.proofs.IndexLaws.{drawn-index, drawn-skipped}
-use Rattle.tip5.proofs.AnswerLaws.{value-answered}
-use Rattle.rounds.specs.Field.{valueOf}
-use borrow.Author.Needs.{needs}
 use Rattle.draws.proofs.index.put_index.Statement.{statement}
 use Rattle.draws.proofs.index.put_index.Tie as tie
 

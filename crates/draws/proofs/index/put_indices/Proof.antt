@@ -6,11 +6,11 @@ use Prim.Native.Nat.{ℕ, _-_, _≤_, _<_}
 use native.Mathlib.Omega.{arith}
 use lib.ListN.{getD, length, take}
 use lib.Seq.{take-all}
+use Rattle.rounds.specs.Field.{valueOf}
 use Rattle.draws.specs.Draw.{drawnFrom, fromWords}
 use Rattle.draws.specs.Extended.{Extended}
 use Rattle.draws.proofs.ExtendedLaws.{extended-none, extended-twice}
 use Rattle.draws.proofs.IndexLaws.{fromWords-more}
-use Rattle.rounds.specs.Field.{valueOf}
 use Rattle.draws.proofs.index.put_indices.Statement.{statement}
 use Rattle.draws.proofs.index.put_indices.Tie as tie
 

@@ -1,6 +1,7 @@
 -- `column::column_entry` meets its contract: a walk of its MIR, by hand. A view is made of the slice and the two numbers, copied,
 -- and passed to `get`. All that the proof knows of `get` is that it meets its contract.
 -- Assumes nothing.
+use denote.Struct.Laws as LL
 use Rattle.walks.proofs.Names.{refl, ℕ, List, [], _∷_, length, URA, w64, vint, id⊢, monoR, Lft, Share, ftrue, fsep, Heap, Calls, Loops, Atoms, FmC}
 use Rattle.walks.proofs.Names.{givenOf, tables}
 use Rattle.walks.proofs.Names.{Given, raw, _$_, _∵_, !, qed, by, move, use1, look, init, of-opd, and-then, no-more, returns, enter, alloc1, alloc0, params1}
@@ -8,9 +9,8 @@ use Rattle.walks.proofs.Names.{pass1, pass0, free0}
 use Rattle.walks.proofs.Names.{named, erased, NamedLft, agg, u64, RefT, ShrSlice, slice-vals, shr-slice-tells, shr-slice-lawful, Args, Vals, flat, typesAt}
 use Rattle.walks.proofs.Names.{uint-vals, uint-tells, usize, Is, now, namedLft, sliceVal, Bound, alive, onEntry, Triple, cited, Answer, Stated, WalkAnswering}
 use Rattle.walks.proofs.Names.{answered, asks, frees-at, lands-in, lets, local}
-use denote.Struct.Laws as LL
-use Rattle.rows.specs.Column.{entry}
 use Rattle.rows.specs.declared.column.Column.{Column}
+use Rattle.rows.specs.Column.{entry}
 use Rattle.rows.proofs.ViewLaws.{view-is, view-typed, view-shut}
 use Rattle.rows.proofs.column.Column.Laws.{lowered}
 use Rattle.rows.proofs.column.EntryAnswer as R

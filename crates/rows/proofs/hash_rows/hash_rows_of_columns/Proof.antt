@@ -2,12 +2,12 @@
 -- Assumes nothing.
 use mathlib.Core.Path.{ap, sym, _∙_}
 use native.Mathlib.Omega.{arith}
+use borrow.Author.Needs.{needs}
+use Rattle.tip5.proofs.AnswerLaws.{unless-granted, unless-refused}
 use Rattle.rows.specs.declared.row.Shape.{Shape}
 use Rattle.rows.specs.Rows.{rowDigests, rowsRefusal}
 use Rattle.rows.specs.Table.{digestsIn}
 use Rattle.rows.proofs.ShapeLaws.{accepted-rows, count-le}
-use Rattle.tip5.proofs.AnswerLaws.{unless-granted, unless-refused}
-use borrow.Author.Needs.{needs}
 use Rattle.rows.proofs.hash_rows.hash_rows_of_columns.Statement.{statement}
 use Rattle.rows.proofs.hash_rows.hash_rows_of_columns.Tie as tie
 

@@ -4,8 +4,8 @@ use mathlib.Core.Path.{ap, sym, _∙_}
 use Prim.Native.Nat.{ℕ, _*_}
 use native.Mathlib.Nat.{mul-zero, pos-of-ne-zero}
 use lib.Dec.{eqb}
-use Rattle.rows.proofs.ProductLaws.{not-product, quotient-test}
 use borrow.Author.Needs.{needs}
+use Rattle.rows.proofs.ProductLaws.{not-product, quotient-test}
 use Rattle.rows.proofs.judge.is_product.Statement.{statement}
 use Rattle.rows.proofs.judge.is_product.Tie as tie
 

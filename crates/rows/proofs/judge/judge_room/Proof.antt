@@ -4,8 +4,8 @@ use mathlib.Core.Path.{ap, _∙_}
 use Prim.Native.Nat.{ℕ, _*_}
 use lib.Dec.{eqb}
 use lib.ListN.{length}
-use Rattle.rows.proofs.ShapeLaws.{test-failed, test-passed}
 use borrow.Author.Needs.{needs}
+use Rattle.rows.proofs.ShapeLaws.{test-failed, test-passed}
 use Rattle.rows.proofs.judge.judge_room.Statement.{statement}
 use Rattle.rows.proofs.judge.judge_room.Tie as tie
 

@@ -3,9 +3,9 @@
 use mathlib.Core.Path.{refl, _∙_}
 use Prim.Native.Nat.{_*_}
 use lib.ListN.{length}
+use borrow.Author.Needs.{needs}
 use Rattle.rows.proofs.ProductLaws.{not-product, quotient-test}
 use Rattle.rows.proofs.ShapeLaws.{test-failed, test-passed}
-use borrow.Author.Needs.{needs}
 use Rattle.rows.proofs.judge.judge_size.Statement.{statement}
 use Rattle.rows.proofs.judge.judge_size.Tie as tie
 

@@ -1,7 +1,7 @@
 -- `row::absorbed` meets its contract.
 -- Assumes nothing.
-use Rattle.rows.proofs.AbsorbLaws.{absorb-granted}
 use borrow.Author.Needs.{needs}
+use Rattle.rows.proofs.AbsorbLaws.{absorb-granted}
 use Rattle.rows.proofs.row.absorbed.Statement.{statement}
 use Rattle.rows.proofs.row.absorbed.Tie as tie
 

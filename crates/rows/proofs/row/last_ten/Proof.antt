@@ -2,10 +2,10 @@
 -- Assumes nothing.
 use native.Mathlib.Omega.{arith}
 use lib.ListN.{drop}
+use borrow.Author.Needs.{needs}
 use Rattle.rows.specs.Table.{rowIn}
 use Rattle.rows.proofs.PasteLaws.{paste-last}
 use Rattle.rows.proofs.TableLaws.{rest-length, row-fits}
-use borrow.Author.Needs.{needs}
 use Rattle.rows.proofs.row.last_ten.Statement.{statement}
 use Rattle.rows.proofs.row.last_ten.Tie as tie
 

@@ -6,8 +6,8 @@ use native.Mathlib.Nat.{div-lt-iff-lt-mul, mod-lt, zero-add}
 use native.Mathlib.Omega.{arith}
 use lib.ListN.{drop, replicate}
 use lib.Seq.{paste, paste-zero}
-use Rattle.rows.specs.Table.{rowIn}
 use Rattle.numbers.proofs.Fill.{paste-more}
+use Rattle.rows.specs.Table.{rowIn}
 use Rattle.rows.proofs.TableLaws.{rest-at, rest-length, row-fits}
 use Rattle.rows.proofs.row.row_part.Statement.{statement}
 use Rattle.rows.proofs.row.row_part.Tie as tie

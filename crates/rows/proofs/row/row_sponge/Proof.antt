@@ -6,9 +6,7 @@ use Prim.Native.Nat.{ℕ, _-_, _≤_}
 use native.Mathlib.Omega.{arith}
 use lib.ListN.{drop, take}
 use lib.Seq.{drop-drop}
-use Rattle.rows.specs.Table.{rowIn}
-use Rattle.rows.proofs.PasteLaws.{paste-ten}
-use Rattle.rows.proofs.TableLaws.{rest-length, row-below, row-fits}
+use Rattle.rounds.specs.Field.{Below}
 use Rattle.sponge.specs.declared.Domain.the-variants.{VariableLength}
 use Rattle.sponge.specs.declared.Tip5.{Tip5}
 use Rattle.sponge.specs.History.{paddedSteps, run}
@@ -17,7 +15,9 @@ use Rattle.sponge.proofs.BelowLaws.{drop-below, take-below}
 use Rattle.sponge.proofs.HistoryLaws.{run-padded-last, run-padded-more}
 use Rattle.sponge.proofs.PaddingLaws.{lastTen-below}
 use Rattle.sponge.proofs.SpongeLaws.{absorbed-below, start-below}
-use Rattle.rounds.specs.Field.{Below}
+use Rattle.rows.specs.Table.{rowIn}
+use Rattle.rows.proofs.PasteLaws.{paste-ten}
+use Rattle.rows.proofs.TableLaws.{rest-length, row-below, row-fits}
 use Rattle.rows.proofs.row.row_sponge.Statement.{statement}
 use Rattle.rows.proofs.row.row_sponge.Tie as tie
 

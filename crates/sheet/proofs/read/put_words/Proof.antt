@@ -10,8 +10,8 @@ use lib.ListN.{drop, getD, length, length-set, set}
 use lib.Seq.{drop-cons, set-at}
 use Rattle.numbers.specs.Lists.{tab}
 use Rattle.numbers.proofs.Lists.{length-tab, tab-snoc}
-use Rattle.sheet.specs.Sheet.{value, wordsOf}
 use Rattle.rounds.specs.Field.{rawOf}
+use Rattle.sheet.specs.Sheet.{value, wordsOf}
 use Rattle.sheet.proofs.read.put_words.Statement.{statement}
 use Rattle.sheet.proofs.read.put_words.Tie as tie
 

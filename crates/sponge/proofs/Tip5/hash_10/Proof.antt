@@ -2,11 +2,11 @@
 -- Assumes nothing.
 use mathlib.Core.Path.{sym, _∙_}
 use lib.ListN.{replicate}
+use borrow.Author.Needs.{needs}
+use Rattle.tip5.proofs.AnswerLaws.{answer-granted, answer-refused}
 use Rattle.sponge.specs.Digest.{digestOfTen}
 use Rattle.sponge.proofs.AcceptedLaws.{accepted-hash10}
 use Rattle.sponge.proofs.AnswerLaws.{digestAnswer}
-use Rattle.tip5.proofs.AnswerLaws.{answer-granted, answer-refused}
-use borrow.Author.Needs.{needs}
 use Rattle.sponge.proofs.Tip5.hash_10.Statement.{statement}
 use Rattle.sponge.proofs.Tip5.hash_10.Tie as tie
 

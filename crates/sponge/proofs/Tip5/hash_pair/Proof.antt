@@ -2,11 +2,11 @@
 -- Assumes nothing.
 use mathlib.Core.Path.{sym, _∙_}
 use lib.ListN.{replicate}
+use borrow.Author.Needs.{needs}
+use Rattle.tip5.proofs.AnswerLaws.{answer-granted, answer-refused}
 use Rattle.sponge.specs.Digest.{digestOfPair}
 use Rattle.sponge.proofs.AcceptedLaws.{accepted-hashPair}
 use Rattle.sponge.proofs.AnswerLaws.{digestAnswer}
-use Rattle.tip5.proofs.AnswerLaws.{answer-granted, answer-refused}
-use borrow.Author.Needs.{needs}
 use Rattle.sponge.proofs.Tip5.hash_pair.Statement.{statement}
 use Rattle.sponge.proofs.Tip5.hash_pair.Tie as tie
 

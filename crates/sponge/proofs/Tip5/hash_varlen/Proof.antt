@@ -2,11 +2,11 @@
 -- Assumes nothing.
 use mathlib.Core.Path.{sym, _∙_}
 use lib.ListN.{replicate}
-use Rattle.sponge.specs.Digest.{digestOf}
-use Rattle.tip5.proofs.JudgeLaws.{accepted-below}
-use Rattle.sponge.proofs.AnswerLaws.{digestAnswer}
-use Rattle.tip5.proofs.AnswerLaws.{answer-granted, answer-refused}
 use borrow.Author.Needs.{needs}
+use Rattle.tip5.proofs.JudgeLaws.{accepted-below}
+use Rattle.tip5.proofs.AnswerLaws.{answer-granted, answer-refused}
+use Rattle.sponge.specs.Digest.{digestOf}
+use Rattle.sponge.proofs.AnswerLaws.{digestAnswer}
 use Rattle.sponge.proofs.Tip5.hash_varlen.Statement.{statement}
 use Rattle.sponge.proofs.Tip5.hash_varlen.Tie as tie
 

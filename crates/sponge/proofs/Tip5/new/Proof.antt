@@ -1,8 +1,8 @@
 -- `Tip5::new` meets its contract.
 -- Assumes nothing.
 use mathlib.Core.Path.{ap, sym}
-use Rattle.sponge.specs.Sponge.{start}
 use borrow.Author.Needs.{needs}
+use Rattle.sponge.specs.Sponge.{start}
 use Rattle.sponge.proofs.Tip5.new.Statement.{statement}
 use Rattle.sponge.proofs.Tip5.new.Tie as tie
 

@@ -2,18 +2,18 @@
 -- answered record is put back whole, and the refusal and the ten words are returned. All that the proof knows of the squeeze by
 -- value is that it meets its contract.
 -- Assumes nothing.
+use denote.Struct.Laws as LL
 use Rattle.walks.proofs.Names.{_≡_, refl, [], _∷_, URA, named, vptr, id⊢, Lft, Share, ftrue, flft, Heap, Calls, Loops, Atoms, FmC, givenOf, tables, Given, ‵}
 use Rattle.walks.proofs.Names.{raw, _⊛_, _$_, _∵_, !, qed, by, move, keep, drop, use1, split, join, fsplit, fsplit3, fjoin}
 use Rattle.walks.proofs.Names.{agg, look, init, of-opd, and-then, no-more, returns, enter, alloc1, alloc0, params1, pass1, pass0, free0, Is, nothing, owned}
 use Rattle.walks.proofs.Names.{RefT, now, MutRef, owns, plain}
 use Rattle.walks.proofs.Names.{Bound, onEntry, Triple, cited, Answer, Stated, WalkLeaving, left-behind, asks, copies-out, field-of, frees-at, lands-spelt, lets}
 use Rattle.walks.proofs.Names.{local, puts-back}
-use denote.Struct.Laws as LL
-use Rattle.sponge.specs.Answers.{squeeze}
-use Rattle.sponge.specs.InPlace.{leavingTen}
 use Rattle.sponge.specs.declared.Tip5.{Tip5}
 use Rattle.sponge.specs.declared.by_value.SqueezeAnswer.{SqueezeAnswer}
 use Rattle.sponge.specs.declared.in_place.TenAnswer.{TenAnswer}
+use Rattle.sponge.specs.Answers.{squeeze}
+use Rattle.sponge.specs.InPlace.{leavingTen}
 use Rattle.sponge.proofs.Tip5 as S
 use Rattle.sponge.proofs.Tip5.Laws as S′
 use Rattle.sponge.proofs.by_value.SqueezeAnswer as N

@@ -1,18 +1,18 @@
 -- `Tip5::step_back` meets its contract: a walk of its MIR, by hand. It is the walk of `LentWalk` with the kind of the step
 -- passed on besides. All that the proof knows of the step back by value is that it meets its contract.
 -- Assumes nothing.
+use denote.Enum.Laws as EL
+use denote.Struct.Laws as LL
 use Rattle.walks.proofs.Names.{_≡_, refl, ℕ, List, [], _∷_, length, URA, named, w8, Val, vptr, id⊢, Lft, Share, ftrue, flft, Heap, Calls, Loops, Atoms, FmC}
 use Rattle.walks.proofs.Names.{givenOf, tables, Given, ‵, raw, _⊛_, _$_, _∵_, !, qed, by, move, keep, drop, use1, split3, join, fsplit, fsplit3, fjoin}
 use Rattle.walks.proofs.Names.{look, init, of-opd, and-then, no-more, returns, enter, alloc1, alloc0, params1, pass1, pass0, free0, u8, u64, SliceRefOf, yes}
 use Rattle.walks.proofs.Names.{Is, owned, uint-makes, RefT, now, MutRef, owns, plain, Slot, sliceVal, ShrSlice, slice-vals, shr-slice-tells, shr-slice-lawful}
 use Rattle.walks.proofs.Names.{Bound, onEntry, Triple, cited, Answer, Stated, WalkLeaving, left-behind, asks, copies-out, field-of, frees-at, lands-spelt, lets}
 use Rattle.walks.proofs.Names.{local, puts-back}
-use denote.Enum.Laws as EL
-use denote.Struct.Laws as LL
-use Rattle.sponge.specs.Answers.{stepBack}
-use Rattle.sponge.specs.InPlace.{leaving}
 use Rattle.sponge.specs.declared.Tip5.{Tip5}
 use Rattle.sponge.specs.declared.step_back.StepKind.{StepKind}
+use Rattle.sponge.specs.Answers.{stepBack}
+use Rattle.sponge.specs.InPlace.{leaving}
 use Rattle.sponge.proofs.Tip5 as S
 use Rattle.sponge.proofs.Tip5.Laws as S′
 use Rattle.sponge.proofs.by_value.SpongeAnswer as N

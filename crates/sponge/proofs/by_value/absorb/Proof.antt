@@ -1,11 +1,11 @@
 -- `by_value::absorb` meets its contract.
 -- Assumes nothing.
 use mathlib.Core.Path.{sym, _∙_}
-use Rattle.sponge.specs.Sponge.{absorbed}
-use Rattle.sponge.proofs.AcceptedLaws.{accepted-absorb}
-use Rattle.sponge.specs.InPlace.{leaving}
-use Rattle.tip5.proofs.AnswerLaws.{answer-granted, answer-refused}
 use borrow.Author.Needs.{needs}
+use Rattle.tip5.proofs.AnswerLaws.{answer-granted, answer-refused}
+use Rattle.sponge.specs.Sponge.{absorbed}
+use Rattle.sponge.specs.InPlace.{leaving}
+use Rattle.sponge.proofs.AcceptedLaws.{accepted-absorb}
 use Rattle.sponge.proofs.by_value.absorb.Statement.{statement}
 use Rattle.sponge.proofs.by_value.absorb.Tie as tie
 

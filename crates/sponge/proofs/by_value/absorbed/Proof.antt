@@ -1,11 +1,11 @@
 -- `by_value::absorbed` meets its contract.
 -- Assumes nothing.
 use mathlib.Core.Path.{ap, subst⁻¹, _∙_}
+use borrow.Author.Needs.{needs}
+use Rattle.rounds.specs.Field.{Below}
 use Rattle.sponge.specs.declared.Tip5.{Tip5}
 use Rattle.sponge.specs.Sponge.{absorbed, permute}
-use Rattle.rounds.specs.Field.{Below}
 use Rattle.sponge.proofs.SpongeLaws.{overwrite-below}
-use borrow.Author.Needs.{needs}
 use Rattle.sponge.proofs.by_value.absorbed.Statement.{statement}
 use Rattle.sponge.proofs.by_value.absorbed.Tie as tie
 

@@ -6,11 +6,11 @@ use Prim.Native.Nat.{ℕ, _-_, _≤_}
 use native.Mathlib.Omega.{arith}
 use lib.ListN.{drop, length, take, length-drop, length-take}
 use lib.Seq.{drop-drop}
+use Rattle.rounds.specs.Field.{Below}
 use Rattle.sponge.specs.declared.Tip5.{Tip5}
 use Rattle.sponge.specs.History.{paddedSteps, run}
 use Rattle.sponge.specs.Padding.{lastTen}
 use Rattle.sponge.specs.Sponge.{absorbed}
-use Rattle.rounds.specs.Field.{Below}
 use Rattle.sponge.proofs.BelowLaws.{drop-below, take-below}
 use Rattle.sponge.proofs.HistoryLaws.{run-padded-last, run-padded-more}
 use Rattle.sponge.proofs.ListLaws.{part-of, rest-of}

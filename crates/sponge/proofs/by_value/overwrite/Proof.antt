@@ -4,11 +4,11 @@ use mathlib.Core.List.{_++_}
 use mathlib.Core.Path.{ap, _∙_}
 use Prim.Native.Nat.{ℕ}
 use lib.ListN.{drop}
+use native.Mathlib.Omega.{arith}
+use borrow.Author.Needs.{needs}
 use Rattle.sponge.specs.Sponge.{overwrite}
 use Rattle.sponge.proofs.ListLaws.{paste-front}
-use native.Mathlib.Omega.{arith}
 use Rattle.sponge.proofs.RecordLaws.{sixteen}
-use borrow.Author.Needs.{needs}
 use Rattle.sponge.proofs.by_value.overwrite.Statement.{statement}
 use Rattle.sponge.proofs.by_value.overwrite.Tie as tie
 

@@ -1,11 +1,11 @@
 -- `by_value::pad_and_absorb_all` meets its contract.
 -- Assumes nothing.
 use mathlib.Core.Path.{sym, _∙_}
-use Rattle.sponge.specs.History.{paddedSteps, run}
-use Rattle.sponge.proofs.AcceptedLaws.{accepted-pad}
-use Rattle.sponge.specs.InPlace.{leaving}
-use Rattle.tip5.proofs.AnswerLaws.{answer-granted, answer-refused}
 use borrow.Author.Needs.{needs}
+use Rattle.tip5.proofs.AnswerLaws.{answer-granted, answer-refused}
+use Rattle.sponge.specs.History.{paddedSteps, run}
+use Rattle.sponge.specs.InPlace.{leaving}
+use Rattle.sponge.proofs.AcceptedLaws.{accepted-pad}
 use Rattle.sponge.proofs.by_value.pad_and_absorb_all.Statement.{statement}
 use Rattle.sponge.proofs.by_value.pad_and_absorb_all.Tie as tie
 

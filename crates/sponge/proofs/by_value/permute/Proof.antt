@@ -1,8 +1,8 @@
 -- `by_value::permute` meets its contract.
 -- Assumes nothing.
-use Rattle.sponge.proofs.AnswerLaws.{state-next}
-use Rattle.sponge.specs.Sponge.{permute}
 use borrow.Author.Needs.{needs}
+use Rattle.sponge.specs.Sponge.{permute}
+use Rattle.sponge.proofs.AnswerLaws.{state-next}
 use Rattle.sponge.proofs.by_value.permute.Statement.{statement}
 use Rattle.sponge.proofs.by_value.permute.Tie as tie
 

@@ -1,13 +1,13 @@
 -- `by_value::squeeze` meets its contract.
 -- Assumes nothing.
-use Rattle.sponge.proofs.RecordLaws.{sixteen}
-use Rattle.sponge.proofs.SpongeLaws.{rate-words}
 use mathlib.Core.Path.{sym, _∙_}
 use lib.ListN.{replicate}
-use Rattle.sponge.specs.Sponge.{rate, squeezed}
-use Rattle.tip5.proofs.JudgeLaws.{accepted-below}
-use Rattle.sponge.proofs.AnswerLaws.{answer-granted₂, answer-refused₂, squeezeAnswer}
 use borrow.Author.Needs.{needs}
+use Rattle.tip5.proofs.JudgeLaws.{accepted-below}
+use Rattle.sponge.specs.Sponge.{rate, squeezed}
+use Rattle.sponge.proofs.RecordLaws.{sixteen}
+use Rattle.sponge.proofs.SpongeLaws.{rate-words}
+use Rattle.sponge.proofs.AnswerLaws.{answer-granted₂, answer-refused₂, squeezeAnswer}
 use Rattle.sponge.proofs.by_value.squeeze.Statement.{statement}
 use Rattle.sponge.proofs.by_value.squeeze.Tie as tie
 

@@ -1,18 +1,18 @@
 -- `digest::digest_of` meets its contract.
 -- Assumes nothing.
 use lib.ListN.{getD}
-use Rattle.numbers.specs.Lists.{tab}
 use mathlib.Core.Path.{ap, subst⁻¹, _∙_}
+use borrow.Author.Needs.{needs}
+use Rattle.numbers.specs.Lists.{tab}
+use Rattle.rounds.specs.Field.{Below}
 use Rattle.sponge.specs.declared.Domain.the-variants.{VariableLength}
 use Rattle.sponge.specs.declared.Tip5.{Tip5}
 use Rattle.sponge.specs.Digest.{digestOf}
 use Rattle.sponge.specs.History.{paddedSteps, run}
 use Rattle.sponge.specs.Sponge.{start}
-use Rattle.rounds.specs.Field.{Below}
 use Rattle.sponge.proofs.SpongeLaws.{start-below, start-length}
 use Rattle.sponge.proofs.DigestLaws.{digest-words}
 use Rattle.sponge.proofs.HistoryLaws.{run-length}
-use borrow.Author.Needs.{needs}
 use Rattle.sponge.proofs.digest.digest_of.Statement.{statement}
 use Rattle.sponge.proofs.digest.digest_of.Tie as tie
 

@@ -5,10 +5,10 @@ use mathlib.Core.Path.{_≡_, ap, subst⁻¹, _∙_}
 use Prim.Native.Nat.{ℕ}
 use native.Mathlib.Omega.{arith}
 use lib.ListN.{length, length-append}
-use Rattle.sponge.specs.Digest.{digestOfPair, digestOfTen}
-use Rattle.rounds.specs.Field.{Below}
-use Rattle.sponge.proofs.BelowLaws.{append-below}
 use borrow.Author.Needs.{needs}
+use Rattle.rounds.specs.Field.{Below}
+use Rattle.sponge.specs.Digest.{digestOfPair, digestOfTen}
+use Rattle.sponge.proofs.BelowLaws.{append-below}
 use Rattle.sponge.proofs.digest.digest_of_pair.Statement.{statement}
 use Rattle.sponge.proofs.digest.digest_of_pair.Tie as tie
 

@@ -1,16 +1,16 @@
 -- `digest::digest_of_ten` meets its contract.
 -- Assumes nothing.
 use lib.ListN.{getD}
-use Rattle.numbers.specs.Lists.{tab}
 use mathlib.Core.Path.{ap, subst⁻¹, _∙_}
+use borrow.Author.Needs.{needs}
+use Rattle.numbers.specs.Lists.{tab}
+use Rattle.rounds.specs.Field.{Below}
 use Rattle.sponge.specs.declared.Domain.the-variants.{FixedLength}
 use Rattle.sponge.specs.declared.Tip5.{Tip5}
 use Rattle.sponge.specs.Digest.{digestOfTen}
 use Rattle.sponge.specs.Sponge.{absorbed, start}
-use Rattle.rounds.specs.Field.{Below}
 use Rattle.sponge.proofs.SpongeLaws.{absorbed-length, start-below}
 use Rattle.sponge.proofs.DigestLaws.{digest-words}
-use borrow.Author.Needs.{needs}
 use Rattle.sponge.proofs.digest.digest_of_ten.Statement.{statement}
 use Rattle.sponge.proofs.digest.digest_of_ten.Tie as tie
 

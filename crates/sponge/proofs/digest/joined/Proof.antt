@@ -5,8 +5,8 @@ use mathlib.Core.Path.{ap, refl, _∙_}
 use Prim.Native.Nat.{ℕ}
 use lib.ListN.{length, replicate}
 use lib.Seq.{paste}
-use Rattle.sponge.proofs.ListLaws.{paste-rest}
 use borrow.Author.Needs.{needs}
+use Rattle.sponge.proofs.ListLaws.{paste-rest}
 use Rattle.sponge.proofs.digest.joined.Statement.{statement}
 use Rattle.sponge.proofs.digest.joined.Tie as tie
 

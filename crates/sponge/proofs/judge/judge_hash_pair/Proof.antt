@@ -1,9 +1,9 @@
 -- `judge::judge_hash_pair` meets its contract.
 -- Assumes nothing.
 use mathlib.Core.List.{[], _∷_}
+use borrow.Author.Needs.{needs}
 use Rattle.tip5.specs.Judge.{lengthRefusal, wordRefusal}
 use Rattle.tip5.proofs.RefusalLaws.{first-ends, first-goes-on, first-stops}
-use borrow.Author.Needs.{needs}
 use Rattle.sponge.proofs.judge.judge_hash_pair.Statement.{statement}
 use Rattle.sponge.proofs.judge.judge_hash_pair.Tie as tie
 

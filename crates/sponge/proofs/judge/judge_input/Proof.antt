@@ -1,9 +1,9 @@
 -- `judge::judge_input` meets its contract.
 -- Assumes nothing.
 use mathlib.Core.List.{[], _∷_}
+use borrow.Author.Needs.{needs}
 use Rattle.tip5.specs.Judge.{wordRefusal}
 use Rattle.tip5.proofs.RefusalLaws.{first-ends, first-stops}
-use borrow.Author.Needs.{needs}
 use Rattle.sponge.proofs.judge.judge_input.Statement.{statement}
 use Rattle.sponge.proofs.judge.judge_input.Tie as tie
 

@@ -5,9 +5,9 @@ use mathlib.Core.Path.{ap, _∙_}
 use Prim.Native.Nat.{ℕ}
 use native.Mathlib.Omega.{arith}
 use lib.ListN.{length, set}
+use borrow.Author.Needs.{needs}
 use Rattle.sponge.specs.Padding.{lastTen}
 use Rattle.sponge.proofs.ListLaws.{paste-set}
-use borrow.Author.Needs.{needs}
 use Rattle.sponge.proofs.padding.last_ten.Statement.{statement}
 use Rattle.sponge.proofs.padding.last_ten.Tie as tie
 

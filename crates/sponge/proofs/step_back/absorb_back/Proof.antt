@@ -1,11 +1,11 @@
 -- `step_back::absorb_back` meets its contract.
 -- Assumes nothing.
 use mathlib.Core.Path.{sym, _∙_}
-use Rattle.sponge.specs.Sponge.{unabsorbed}
-use Rattle.sponge.proofs.AcceptedLaws.{accepted-absorb}
-use Rattle.sponge.specs.InPlace.{leaving}
-use Rattle.tip5.proofs.AnswerLaws.{answer-granted, answer-refused}
 use borrow.Author.Needs.{needs}
+use Rattle.tip5.proofs.AnswerLaws.{answer-granted, answer-refused}
+use Rattle.sponge.specs.Sponge.{unabsorbed}
+use Rattle.sponge.specs.InPlace.{leaving}
+use Rattle.sponge.proofs.AcceptedLaws.{accepted-absorb}
 use Rattle.sponge.proofs.step_back.absorb_back.Statement.{statement}
 use Rattle.sponge.proofs.step_back.absorb_back.Tie as tie
 

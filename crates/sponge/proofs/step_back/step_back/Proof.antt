@@ -1,9 +1,9 @@
 -- `step_back::step_back` meets its contract.
 -- Assumes nothing.
 use mathlib.Core.Path.{ap, sym, _∙_}
+use borrow.Author.Needs.{needs}
 use Rattle.sponge.specs.declared.step_back.StepKind.{StepKind}
 use Rattle.sponge.specs.Answers.{stepBack}
-use borrow.Author.Needs.{needs}
 use Rattle.sponge.proofs.step_back.step_back.Statement.{statement}
 use Rattle.sponge.proofs.step_back.step_back.Tie as tie
 

@@ -1,8 +1,8 @@
 -- `step_back::unabsorbed` meets its contract.
 -- Assumes nothing.
 use mathlib.Core.Path.{ap, _∙_}
-use Rattle.sponge.specs.Sponge.{overwrite, unabsorbed}
 use borrow.Author.Needs.{needs}
+use Rattle.sponge.specs.Sponge.{overwrite, unabsorbed}
 use Rattle.sponge.proofs.step_back.unabsorbed.Statement.{statement}
 use Rattle.sponge.proofs.step_back.unabsorbed.Tie as tie
 

@@ -1,8 +1,8 @@
 -- `step_back::unpermute` meets its contract.
 -- Assumes nothing.
+use borrow.Author.Needs.{needs}
 use Rattle.sponge.specs.Sponge.{unpermute}
 use Rattle.sponge.proofs.AnswerLaws.{state-next}
-use borrow.Author.Needs.{needs}
 use Rattle.sponge.proofs.step_back.unpermute.Statement.{statement}
 use Rattle.sponge.proofs.step_back.unpermute.Tie as tie
 

@@ -1,11 +1,11 @@
 -- `in_place::judged_slice` meets its contract.
 -- Assumes nothing.
 use mathlib.Core.Path.{ap, _∙_}
+use borrow.Author.Needs.{needs}
 use Rattle.tip5.specs.Moves.{moved, movedAnswer}
-use Rattle.states.proofs.InPlaceLaws.{in-place-moved, in-place-refused, slice-refused}
 use Rattle.tip5.specs.Judge.{wordRefusal}
 use Rattle.tip5.proofs.RefusalLaws.{length-judged}
-use borrow.Author.Needs.{needs}
+use Rattle.states.proofs.InPlaceLaws.{in-place-moved, in-place-refused, slice-refused}
 use Rattle.states.proofs.in_place.judged_slice.Statement.{statement}
 use Rattle.states.proofs.in_place.judged_slice.Tie as tie
 

@@ -4,8 +4,8 @@ use mathlib.Core.List.{[], _∷_}
 use native.Mathlib.Nat.{le-of-lt}
 use borrow.Author.Needs.{needs}
 use Rattle.tip5.specs.Moves.{roundOf}
-use Rattle.states.specs.InPlace.{sliceRefusal}
 use Rattle.tip5.proofs.RefusalLaws.{round-refused}
+use Rattle.states.specs.InPlace.{sliceRefusal}
 use Rattle.states.proofs.InPlaceLaws.{in-place-refused, slice-round}
 use Rattle.states.proofs.in_place.judged_slice_round.Statement.{statement}
 use Rattle.states.proofs.in_place.judged_slice_round.Tie as tie

@@ -3,9 +3,9 @@
 use mathlib.Core.Path.{sym, ap, _∙_}
 use Prim.Native.Nat.{_-_, _/_, _<_}
 use native.Mathlib.Omega.{arith}
+use borrow.Author.Needs.{needs}
 use Rattle.tip5.specs.declared.permutation.StateAnswer.{StateAnswer}
 use Rattle.states.proofs.TraceLaws.{round-granted, entering-next, entering-start, entering-within}
-use borrow.Author.Needs.{needs}
 use Rattle.states.proofs.trace.entering.Statement.{statement}
 use Rattle.states.proofs.trace.entering.Tie as tie
 

@@ -7,11 +7,11 @@ use native.Mathlib.Omega.{arith}
 use lib.ListN.{getD}
 use Rattle.numbers.specs.Fill.{Filled}
 use Rattle.numbers.proofs.Fill.{filled-none, filled-more, filled-all}
-use Rattle.states.specs.Entering.{entering}
-use Rattle.states.specs.Trace.{sixStates}
 use Rattle.rounds.specs.Round.{rounds}
 use Rattle.rounds.specs.Field.{Below}
 use Rattle.rounds.proofs.RoundLaws.{rounds-below}
+use Rattle.states.specs.Entering.{entering}
+use Rattle.states.specs.Trace.{sixStates}
 use Rattle.states.proofs.TraceLaws.{entering-rounds}
 use Rattle.states.proofs.trace.six_states.Statement.{statement}
 use Rattle.states.proofs.trace.six_states.Tie as tie

@@ -2,12 +2,12 @@
 -- Assumes nothing.
 use mathlib.Core.Path.{refl, sym, _∙_}
 use native.Mathlib.Omega.{arith}
-use Rattle.tip5.specs.declared.permutation.Way.the-variants.{Back}
 use Rattle.rounds.specs.Constants.{invMdsColumn, roundConstants}
 use Rattle.rounds.specs.Field.{rawOf}
 use Rattle.rounds.specs.Inverse.{invLookupByte}
 use Rattle.rounds.specs.InverseTables.{invLookupTable, rawInvColumn}
 use Rattle.rounds.specs.Tables.{rawConstants}
+use Rattle.tip5.specs.declared.permutation.Way.the-variants.{Back}
 use Rattle.tip5.proofs.MovesLaws.{moved-all, moved-round}
 use Rattle.tip5.proofs.inverse.inv_rounds_of.Statement.{statement}
 use Rattle.tip5.proofs.inverse.inv_rounds_of.Tie as tie

@@ -16,9 +16,9 @@ use Rattle.numbers.proofs.Fill.{filled-more, filled-same}
 use Rattle.numbers.proofs.Lists.{getD-tab₀}
 use Rattle.rounds.specs.Field.{power, Below}
 use Rattle.rounds.specs.Inverse.{invSbox}
+use Rattle.rounds.proofs.RoundLaws.{tab-below}
 use Rattle.tip5.specs.Powers.{powers}
 use Rattle.tip5.proofs.PowersLaws.{powers-at}
-use Rattle.rounds.proofs.RoundLaws.{tab-below}
 use Rattle.tip5.proofs.SboxLaws.{invSbox-root}
 use Rattle.tip5.proofs.inverse_layers.put_roots.Statement.{statement}
 use Rattle.tip5.proofs.inverse_layers.put_roots.Tie as tie

@@ -11,8 +11,8 @@ use Rattle.numbers.proofs.Fill.{filled-none, filled-more, filled-all}
 use Rattle.rounds.specs.Field.{sub}
 use Rattle.rounds.specs.Inverse.{subtractConstants}
 use Rattle.rounds.specs.Round.{constant}
-use Rattle.tip5.proofs.LentTables.{constant-read}
 use Rattle.rounds.proofs.RoundLaws.{constant-below}
+use Rattle.tip5.proofs.LentTables.{constant-read}
 use Rattle.tip5.proofs.inverse_layers.subtract_constants.Statement.{statement}
 use Rattle.tip5.proofs.inverse_layers.subtract_constants.Tie as tie
 

@@ -10,11 +10,11 @@ use mir.Val.{Fits}
 use Rattle.numbers.specs.Fill.{Filled}
 use Rattle.numbers.specs.Modulus.{P}
 use Rattle.numbers.proofs.Fill.{filled-none, filled-more, filled-all}
+use Rattle.rounds.specs.Field.{add}
+use Rattle.rounds.specs.Round.{addConstants, constant}
 use Rattle.rounds.proofs.ConstantLaws.{constant-bound}
 use Rattle.tip5.proofs.LentTables.{constant-read}
 use Rattle.tip5.proofs.ReducedLaws.{mended}
-use Rattle.rounds.specs.Field.{add}
-use Rattle.rounds.specs.Round.{addConstants, constant}
 use Rattle.tip5.proofs.layers.add_constants.Statement.{statement}
 use Rattle.tip5.proofs.layers.add_constants.Tie as tie
 

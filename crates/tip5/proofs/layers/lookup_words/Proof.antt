@@ -7,8 +7,8 @@ use borrow.Author.Needs.{needs}
 use lib.ListN.{getD}
 use Rattle.numbers.specs.Fill.{Filled}
 use Rattle.numbers.proofs.Fill.{filled-none, filled-more}
-use Rattle.tip5.specs.declared.b_field_element.BFieldElement.{BFieldElement}
 use Rattle.rounds.specs.Round.{bytewise}
+use Rattle.tip5.specs.declared.b_field_element.BFieldElement.{BFieldElement}
 use Rattle.tip5.proofs.layers.lookup_words.Statement.{statement}
 use Rattle.tip5.proofs.layers.lookup_words.Tie as tie
 

@@ -6,13 +6,13 @@ use Prim.Native.Nat.{ℕ, _+_, _*_, _/_, _%_, _^_, _<_}
 use lib.ListN.{getD}
 use mir.Syntax.{w64}
 use mir.Val.{Fits}
-use Rattle.matrix.specs.Column.{mdsColumn}
+use borrow.Author.Needs.{needs}
 use Rattle.numbers.specs.Circulant.{rowSum}
 use Rattle.numbers.specs.Lists.{tab}
 use Rattle.numbers.proofs.Lists.{getD-tab₀, tab-same}
+use Rattle.matrix.specs.Column.{mdsColumn}
 use Rattle.tip5.specs.Reduced.{reduced}
 use Rattle.tip5.proofs.HalvesLaws.{halves-joined, lower, upper}
-use borrow.Author.Needs.{needs}
 use Rattle.tip5.proofs.layers.mds_generated.Statement.{statement}
 use Rattle.tip5.proofs.layers.mds_generated.Tie as tie
 

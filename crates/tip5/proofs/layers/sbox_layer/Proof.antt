@@ -7,8 +7,8 @@ use borrow.Author.Needs.{needs}
 use lib.ListN.{getD}
 use Rattle.numbers.specs.Fill.{Filled}
 use Rattle.numbers.proofs.Fill.{filled-more, filled-all}
-use Rattle.tip5.proofs.SboxLaws.{sbox-looked-up, sbox-power}
 use Rattle.rounds.specs.Round.{sbox, sboxLayer}
+use Rattle.tip5.proofs.SboxLaws.{sbox-looked-up, sbox-power}
 use Rattle.tip5.proofs.layers.sbox_layer.Statement.{statement}
 use Rattle.tip5.proofs.layers.sbox_layer.Tie as tie
 

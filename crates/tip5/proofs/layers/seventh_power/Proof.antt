@@ -2,10 +2,10 @@
 -- Assumes nothing.
 use mathlib.Core.Path.{_≡_, sym, subst⁻¹, _∙_}
 use Prim.Native.Nat.{ℕ, _+_, _<_}
+use borrow.Author.Needs.{needs}
 use Rattle.numbers.specs.Modulus.{P}
 use Rattle.rounds.specs.Field.{mul, power}
 use Rattle.rounds.proofs.FieldLaws.{mul-below, mul-power, power-one}
-use borrow.Author.Needs.{needs}
 use Rattle.tip5.proofs.layers.seventh_power.Statement.{statement}
 use Rattle.tip5.proofs.layers.seventh_power.Tie as tie
 

@@ -4,8 +4,8 @@ use mathlib.Core.Path.{ap, ap₂, _∙_}
 use Prim.Native.Nat.{ℕ, _+_, _*_, _^_}
 use borrow.Author.Needs.{needs}
 use lib.ListN.{getD}
-use Rattle.tip5.specs.Element.{elementOf}
 use Rattle.rounds.proofs.BytewiseLaws.{bytewise-halves}
+use Rattle.tip5.specs.Element.{elementOf}
 use Rattle.tip5.proofs.layers.split_and_lookup.Statement.{statement}
 use Rattle.tip5.proofs.layers.split_and_lookup.Tie as tie
 

@@ -4,10 +4,10 @@ use mathlib.Core.List.{List}
 use Prim.Native.Nat.{ℕ}
 use mathlib.Core.Path.{_≡_, ap, subst⁻¹, _∙_}
 use lib.Dec.{lit<}
+use borrow.Author.Needs.{needs}
 use Rattle.rounds.specs.Round.{permuted, round, rounds}
 use Rattle.rounds.specs.Field.{Below}
 use Rattle.rounds.proofs.RoundLaws.{round-below}
-use borrow.Author.Needs.{needs}
 use Rattle.tip5.proofs.permutation.five_rounds_with.Statement.{statement}
 use Rattle.tip5.proofs.permutation.five_rounds_with.Tie as tie
 

@@ -1,9 +1,9 @@
 -- `permutation::judged` meets its contract.
 -- Assumes nothing.
-use Rattle.tip5.proofs.AnswerLaws.{answer-granted, answer-refused, stateAnswer}
-use Rattle.tip5.proofs.JudgeLaws.{accepted-below}
 use mathlib.Core.Path.{sym, _∙_}
 use borrow.Author.Needs.{needs}
+use Rattle.tip5.proofs.AnswerLaws.{answer-granted, answer-refused, stateAnswer}
+use Rattle.tip5.proofs.JudgeLaws.{accepted-below}
 use Rattle.tip5.proofs.permutation.judged.Statement.{statement}
 use Rattle.tip5.proofs.permutation.judged.Tie as tie
 

@@ -3,13 +3,13 @@
 use mathlib.Core.Path.{ap, _∙_}
 use Prim.Native.Nat.{ℕ}
 use mathlib.Core.List.{List}
-use Rattle.matrix.specs.Column.{mdsColumn}
+use borrow.Author.Needs.{needs}
 use Rattle.numbers.specs.Circulant.{rowSum}
 use Rattle.numbers.specs.Lists.{tab}
-use Rattle.tip5.specs.Reduced.{reduced}
+use Rattle.matrix.specs.Column.{mdsColumn}
 use Rattle.rounds.specs.Round.{addConstants, round}
+use Rattle.tip5.specs.Reduced.{reduced}
 use Rattle.tip5.proofs.MendedLaws.{mended-layer}
-use borrow.Author.Needs.{needs}
 use Rattle.tip5.proofs.permutation.round_with.Statement.{statement}
 use Rattle.tip5.proofs.permutation.round_with.Tie as tie
 

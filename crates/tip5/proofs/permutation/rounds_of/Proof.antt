@@ -2,11 +2,11 @@
 -- Assumes nothing.
 use mathlib.Core.Path.{refl, sym, _∙_}
 use native.Mathlib.Omega.{arith}
-use Rattle.tip5.specs.declared.permutation.Way.the-variants.{Forth}
 use Rattle.rounds.specs.Constants.{roundConstants}
 use Rattle.rounds.specs.Field.{rawOf}
 use Rattle.rounds.specs.Round.{lookupByte}
 use Rattle.rounds.specs.Tables.{lookupTable, rawConstants}
+use Rattle.tip5.specs.declared.permutation.Way.the-variants.{Forth}
 use Rattle.tip5.proofs.MovesLaws.{moved-all, moved-round}
 use Rattle.tip5.proofs.permutation.rounds_of.Statement.{statement}
 use Rattle.tip5.proofs.permutation.rounds_of.Tie as tie

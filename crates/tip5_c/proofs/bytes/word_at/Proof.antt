@@ -2,8 +2,8 @@
 -- Assumes nothing.
 use mathlib.Core.Path.{ap₂, _∙_}
 use Prim.Native.Nat.{ℕ, _+_, _*_}
-use Rattle.tip5_c.proofs.WordLaws.{word-of-halves}
 use borrow.Author.Needs.{needs}
+use Rattle.tip5_c.proofs.WordLaws.{word-of-halves}
 use Rattle.tip5_c.proofs.bytes.word_at.Statement.{statement}
 use Rattle.tip5_c.proofs.bytes.word_at.Tie as tie
 

@@ -1,15 +1,15 @@
 -- `column::Column::get` meets its contract: a walk of its MIR, by hand. The view is taken apart, and `entry` is called on its parts
 -- and the row. All that the proof knows of `entry` is that it meets its contract.
 -- Assumes nothing.
+use denote.Struct.Laws as LL
 use Rattle.walks.proofs.Names.{refl, ℕ, List, [], _∷_, length, URA, w64, Val, vint, id⊢, monoR, Lft, Share, ftrue, fsep, Heap, Calls, Loops, Atoms, FmC}
 use Rattle.walks.proofs.Names.{givenOf, tables}
 use Rattle.walks.proofs.Names.{Given, raw, _$_, _∵_, !, qed, by, move, use1, look, init, of-opd, and-then, no-more, returns, enter, alloc1, alloc0, params1}
 use Rattle.walks.proofs.Names.{pass1, pass0, free0}
 use Rattle.walks.proofs.Names.{uint-vals, uint-tells, usize, Is, NamedLft, now, namedLft, sliceVal, Bound, alive, onEntry, Triple, cited, Answer, Stated}
 use Rattle.walks.proofs.Names.{WalkAnswering, answered, asks, field-of, frees-at, lands-in, lets, local}
-use denote.Struct.Laws as LL
-use Rattle.rows.specs.Column.{entry}
 use Rattle.rows.specs.declared.column.Column.{Column}
+use Rattle.rows.specs.Column.{entry}
 use Rattle.rows.proofs.ViewLaws.{View, view-vals, view-tells, view-typed, view-open}
 use Rattle.rows.proofs.column.Column.Laws.{lowered}
 use Rattle.rows.proofs.column.EntryAnswer as R

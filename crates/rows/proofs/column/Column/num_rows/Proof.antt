@@ -1,14 +1,14 @@
 -- `column::Column::num_rows` meets its contract: a walk of its MIR, by hand. The view is taken apart, and `row_count` is called on
 -- its parts. All that the proof knows of `row_count` is that it meets its contract.
 -- Assumes nothing.
+use denote.Struct.Laws as LL
 use Rattle.walks.proofs.Names.{refl, [], _∷_, length, URA, w64, vint, id⊢, monoR, Lft, Share, ftrue, Heap, Calls, Loops, Atoms, FmC, givenOf, tables}
 use Rattle.walks.proofs.Names.{Given, raw, _$_, _∵_, !, qed, by, move, use1, look, init, of-opd, and-then, no-more, returns, enter, alloc1, alloc0, params1}
 use Rattle.walks.proofs.Names.{pass1, pass0, free0}
 use Rattle.walks.proofs.Names.{Is, NamedLft, now, namedLft, sliceVal, Bound, alive, onEntry, Triple, cited, Answer, Stated, WalkAnswering, answered, asks}
 use Rattle.walks.proofs.Names.{field-of, frees-at, lands-in, lets, local}
-use denote.Struct.Laws as LL
-use Rattle.rows.specs.Column.{rowCount}
 use Rattle.rows.specs.declared.column.Column.{Column}
+use Rattle.rows.specs.Column.{rowCount}
 use Rattle.rows.proofs.ViewLaws.{View, view-vals, view-tells, view-typed, view-open}
 use Rattle.rows.proofs.column.Column.Laws.{lowered}
 use Rattle.rows.proofs.column.CountAnswer as R
