@@ -7,9 +7,9 @@ use native.Mathlib.Decide.{decLt}
 use native.Mathlib.Omega.{arith}
 use borrow.Author.Tests.{le-ltb, lt-ltb}
 use lib.ListN.{drop-of-length-le, length}
-use Rattle.tip5.specs.Judge.{first, unless}
-use Rattle.tip5.proofs.AnswerLaws.{unless-granted}
-use Rattle.tip5.proofs.JudgeLaws.{below-accepted}
+use Rattle.refusals.specs.Judge.{first, unless}
+use Rattle.refusals.proofs.UnlessLaws.{unless-granted}
+use Rattle.refusals.proofs.JudgeLaws.{below-accepted}
 use Rattle.sponge.specs.declared.Domain.the-variants.{VariableLength}
 use Rattle.sponge.specs.declared.Tip5.{Tip5}
 use Rattle.sponge.specs.History.{paddedSteps}

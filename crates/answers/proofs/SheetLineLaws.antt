@@ -3,7 +3,7 @@
 use mathlib.Core.List.{List}
 use mathlib.Core.Path.{_≡_, refl, ap, sym, _∙_}
 use Prim.Native.Nat.{ℕ, zero, suc, _^_}
-use Rattle.tip5.proofs.AnswerLaws.{unless-granted, unless-refused}
+use Rattle.refusals.proofs.UnlessLaws.{unless-granted, unless-refused}
 use Rattle.draws.specs.Draw.{draw}
 use Rattle.lines.specs.Line.{refusedLine}
 use Rattle.sheet.specs.declared.header.Header.{Header}

@@ -8,7 +8,7 @@ use lib.ListN.{drop, length, length-append, take}
 use lib.Seq.{take-at}
 use Rattle.numbers.proofs.Lists.{length-tab}
 use Rattle.rounds.specs.Field.{rawOf}
-use Rattle.tip5.specs.Judge.{wordRefusal}
+use Rattle.refusals.specs.Judge.{wordRefusal}
 use Rattle.sheet.specs.declared.header.HeaderAnswer.{HeaderAnswer}
 use Rattle.sheet.specs.Sheet.{judgeSheet, readWords, value, wordsOf}
 use Rattle.sheet.proofs.Accepted.{words-good}

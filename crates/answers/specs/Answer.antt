@@ -5,7 +5,7 @@ use Prim.Native.Nat.{ℕ, zero, suc, _^_}
 use lib.Dec.{ltb}
 use lib.ListN.{length}
 use Rattle.rounds.specs.Field.{valueOf}
-use Rattle.tip5.specs.Judge.{unless}
+use Rattle.refusals.specs.Judge.{unless}
 use Rattle.sponge.specs.declared.Domain.the-variants.{VariableLength}
 use Rattle.sponge.specs.declared.Tip5.{Tip5}
 use Rattle.sponge.specs.Digest.{digestOf}

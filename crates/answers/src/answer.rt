@@ -7,14 +7,13 @@ use lines::refused_line;
 use sponge::Tip5;
 use sponge::by_value::pad_and_absorb_all;
 use tip5::b_field_element::BFieldElement;
-use tip5::refusal;
 ghost use mathlib.Core.List.{map};
 ghost use mathlib.Core.Path.{_≡_};
 ghost use Prim.Native.Nat.{_^_, _≤_, _<_};
 ghost use lib.ListN.{length};
 ghost use Rattle.numbers.specs.Modulus.{P};
 ghost use Rattle.rounds.specs.Field.{Below, valueOf};
-ghost use Rattle.tip5.specs.Judge.{unless, wordRefusal};
+ghost use Rattle.refusals.specs.Judge.{unless, wordRefusal};
 ghost use Rattle.sponge.specs.Digest.{digestOf};
 ghost use Rattle.draws.specs.Draw.{draw};
 ghost use Rattle.lines.specs.Line.{digestLine, drawLine, refusedLine};
@@ -89,7 +88,7 @@ fn drawn_line(answer: DrawAnswer, indices: &[u32], out: &mut [u8; 65536]) -> usi
     ensures { λ r. ⌜ Front (now (out .entry)) (unless (answer .refusal) (drawLine (answer .squeezes) (now (indices .entry))) (refusedLine (answer .refusal))) (now (out .exit)) r ⌝ }
 {
     let refusal = answer.refusal;
-    if refusal != refusal::NONE {
+    if refusal != refusals::NONE {
         return refused_line(refusal, out);
     }
     draw_line(answer.squeezes, indices, out)

@@ -4,10 +4,9 @@ use crate::answer::draw_sheet;
 use lines::refused_line;
 use sheet::header::Header;
 use sheet::read::read_sheet;
-use tip5::refusal;
 ghost use mathlib.Core.Path.{_≡_};
 ghost use Prim.Native.Nat.{_≤_, _<_};
-ghost use Rattle.tip5.specs.Judge.{wordRefusal};
+ghost use Rattle.refusals.specs.Judge.{wordRefusal};
 ghost use Rattle.lines.specs.Put.{Front};
 ghost use Rattle.answers.specs.Answer.{sheetLine};
 ghost use Rattle.answers.specs.Job.{lineBy};
@@ -29,7 +28,7 @@ pub fn sheet_line(sheet: &[u8], out: &mut [u8; 65536]) -> usize
 {
     let mut words = [0u64; 8192];
     let read = read_sheet(sheet, &mut words);
-    if read.refusal != refusal::NONE {
+    if read.refusal != refusals::NONE {
         return refused_line(read.refusal, out);
     }
     job_line(read.header, &words[..read.header.elements], out)

@@ -10,8 +10,8 @@ use borrow.Author.Tests.{ltb-false, ltb-true}
 use lib.Dec.{ltb}
 use lib.ListN.{drop, length, take}
 use lib.Seq.{take-append-seam}
-use Rattle.tip5.specs.Judge.{allBelow, first, unless}
-use Rattle.tip5.proofs.RefusalLaws.{none-first}
+use Rattle.refusals.specs.Judge.{allBelow, first, unless}
+use Rattle.refusals.proofs.RefusalLaws.{none-first}
 use Rattle.sponge.specs.declared.Tip5.{Tip5}
 use Rattle.draws.specs.Answers.{drawRefusal, drawn, foundRefusal, sampleIndices, sampledSlice}
 use Rattle.draws.specs.Bound.{powerBelow}

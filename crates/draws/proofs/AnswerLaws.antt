@@ -5,8 +5,8 @@ use mathlib.Core.Path.{_≡_, refl, subst⁻¹}
 use Prim.Native.Nat.{ℕ, zero, suc, _≤_, _<_}
 use borrow.Author.Tests.{le-ltb, lt-ltb}
 use lib.ListN.{replicate}
-use Rattle.tip5.specs.Judge.{unless}
-use Rattle.tip5.proofs.RefusalLaws.{none-first}
+use Rattle.refusals.specs.Judge.{unless}
+use Rattle.refusals.proofs.RefusalLaws.{none-first}
 use Rattle.sponge.specs.declared.Tip5.{Tip5}
 use Rattle.sponge.specs.Answers.{squeezeRefusal}
 use Rattle.sponge.specs.History.Step.{squeeze}

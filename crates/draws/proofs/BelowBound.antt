@@ -8,7 +8,7 @@ use native.Mathlib.Nat.{mod-lt}
 use lib.Dec.{eqb}
 use lib.ListN.{length, take}
 use Rattle.rounds.specs.Field.{valueOf}
-use Rattle.tip5.specs.Judge.{unless}
+use Rattle.refusals.specs.Judge.{unless}
 use Rattle.sponge.specs.declared.Tip5.{Tip5}
 use Rattle.sponge.specs.Sponge.{rate, squeezed}
 use Rattle.draws.specs.Answers.{drawRefusal, drawn}

@@ -7,8 +7,8 @@ use native.Mathlib.Nat.{sub-zero}
 use native.Mathlib.Omega.{arith}
 use lib.ListN.{drop, length, replicate, take, length-append, take-append-drop}
 use lib.Seq.{length-take-le}
-use Rattle.tip5.specs.Judge.{first}
-use Rattle.tip5.proofs.RefusalLaws.{first-one}
+use Rattle.refusals.specs.Judge.{first}
+use Rattle.refusals.proofs.RefusalLaws.{first-one}
 use Rattle.sponge.specs.declared.Tip5.{Tip5}
 use Rattle.sponge.specs.Answers.{squeezeRefusal}
 use Rattle.sponge.specs.History.{after}

@@ -11,7 +11,7 @@ use native.Mathlib.Omega.{arith}
 use lib.ListN.{length, take, length-append}
 use lib.Seq.{take-nil}
 use Rattle.rounds.specs.Field.{valueOf}
-use Rattle.tip5.specs.Judge.{unless}
+use Rattle.refusals.specs.Judge.{unless}
 use Rattle.sponge.specs.declared.Tip5.{Tip5}
 use Rattle.sponge.specs.Sponge.{rate, squeezed}
 use Rattle.draws.specs.Answers.{drawRefusal, drawn, sampleIndices}

@@ -4,8 +4,8 @@ use mathlib.Core.Path.{_≡_, ap, _∙_}
 use Prim.Native.Nat.{ℕ, zero, suc}
 use lib.ListN.{replicate}
 use Rattle.rounds.specs.Field.{Below}
-use Rattle.tip5.proofs.AnswerLaws.{unless-granted}
-use Rattle.tip5.proofs.JudgeLaws.{accepted-below, below-accepted}
+use Rattle.refusals.proofs.UnlessLaws.{unless-granted}
+use Rattle.refusals.proofs.JudgeLaws.{accepted-below, below-accepted}
 use Rattle.sponge.specs.declared.by_value.SqueezeAnswer.{SqueezeAnswer}
 use Rattle.sponge.specs.declared.Tip5.{Tip5}
 use Rattle.sponge.specs.Answers.{squeeze, squeezeRefusal}

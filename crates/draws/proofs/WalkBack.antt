@@ -6,7 +6,7 @@ use mathlib.Core.Path.{_≡_, refl, ap, sym, _∙_}
 use Prim.Native.Nat.{ℕ, zero, suc, _+_, _≤_}
 use native.Mathlib.Nat.{add-suc, add-zero, le-of-suc-le-suc, not-suc-le-zero, suc-add, zero-add}
 use lib.ListN.{drop, length, replicate, take}
-use Rattle.tip5.specs.Judge.{unless}
+use Rattle.refusals.specs.Judge.{unless}
 use Rattle.sponge.specs.declared.step_back.StepKind.the-variants.{Squeeze}
 use Rattle.sponge.specs.declared.Tip5.{Tip5}
 use Rattle.sponge.specs.Answers.{granted}

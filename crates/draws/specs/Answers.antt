@@ -5,7 +5,7 @@ use mathlib.Core.List.{List, [], _∷_, _++_}
 use Prim.Native.Nat.{ℕ}
 use lib.Dec.{ltb}
 use lib.ListN.{drop, length, replicate}
-use Rattle.tip5.specs.Judge.{first, unless}
+use Rattle.refusals.specs.Judge.{first, unless}
 use Rattle.sponge.specs.declared.Tip5.{Tip5}
 use Rattle.sponge.specs.Answers.{squeezeRefusal}
 use Rattle.sponge.specs.History.{Step}

@@ -1,5 +1,4 @@
 // Which bounds a draw takes.
-use tip5::refusal;
 ghost use mathlib.Core.Path.{_≡_};
 ghost use Rattle.draws.specs.Bound.{boundRefusal};
 
@@ -11,8 +10,8 @@ pub(crate) fn judge_bound(bound: u32) -> u8
     while 0 < k {
         k -= 1;
         if bound == 1u32 << k {
-            return refusal::NONE;
+            return refusals::NONE;
         }
     }
-    refusal::BAD_BOUND
+    refusals::BAD_BOUND
 }

@@ -5,10 +5,9 @@ mod index;
 
 use bound::judge_bound;
 use index::put_indices;
+use refusals::judge::judge_words;
 use sponge::Tip5;
 use sponge::by_value::squeeze;
-use tip5::judge::judge_words;
-use tip5::refusal;
 ghost use mathlib.Core.Path.{_≡_};
 ghost use Prim.Native.Nat.{_<_};
 ghost use lib.ListN.{length, replicate};
@@ -32,7 +31,7 @@ fn judge_draw(sponge: Tip5, bound: u32) -> u8
 {
     let state = sponge.state;
     let refusal = judge_words(&state);
-    if refusal != refusal::NONE {
+    if refusal != refusals::NONE {
         return refusal;
     }
     judge_bound(bound)
@@ -51,7 +50,7 @@ fn draw(sponge: Tip5, bound: u32, indices: &mut [u32], allowance: u64) -> DrawAn
     while found < indices.len() {
         if squeezes == allowance {
             return DrawAnswer {
-                refusal: refusal::ALLOWANCE_SPENT,
+                refusal: refusals::ALLOWANCE_SPENT,
                 found,
                 squeezes,
                 sponge: s,
@@ -65,7 +64,7 @@ fn draw(sponge: Tip5, bound: u32, indices: &mut [u32], allowance: u64) -> DrawAn
         squeezes += 1;
     }
     DrawAnswer {
-        refusal: refusal::NONE,
+        refusal: refusals::NONE,
         found,
         squeezes,
         sponge: s,
@@ -79,7 +78,7 @@ pub fn sample_indices(sponge: Tip5, bound: u32, indices: &mut [u32], allowance: 
         × (now (indices .exit) ≡ sampledSlice sponge bound allowance (now (indices .entry))) ⌝ }
 {
     let refusal = judge_draw(sponge, bound);
-    if refusal != refusal::NONE {
+    if refusal != refusals::NONE {
         return DrawAnswer {
             refusal,
             found: 0,

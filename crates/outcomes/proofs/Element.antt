@@ -1,4 +1,4 @@
--- No second outcome: the calls on a field element, and judging words.
+-- No second outcome: the calls on a field element.
 -- Assumes nothing.
 use Rattle.tip5.proofs.b_field_element.BFieldElement.new.Reads as new
 use Rattle.tip5.proofs.b_field_element.BFieldElement.from_raw_u64.Reads as from-raw-u64
@@ -8,7 +8,6 @@ use Rattle.tip5.proofs.b_field_element.BFieldElement.add.Reads as add
 use Rattle.tip5.proofs.b_field_element.BFieldElement.sub.Reads as sub
 use Rattle.tip5.proofs.b_field_element.BFieldElement.mul.Reads as mul
 use Rattle.tip5.proofs.b_field_element.BFieldElement.mod_pow.Reads as mod-pow
-use Rattle.tip5.proofs.judge.judge_words.Reads as judge-words
 use Rattle.outcomes.specs.Outcome.{OneAnswer}
 use Rattle.outcomes.proofs.Same.{same}
 
@@ -35,6 +34,3 @@ mul-once κs a x y e f h k = same h k
 
 pub mod-pow-once : OneAnswer mod-pow.Learnt
 mod-pow-once κs a x y e f h k = same h k
-
-pub judge-words-once : OneAnswer judge-words.Learnt
-judge-words-once κs a x y e f h k = same h k

@@ -9,12 +9,12 @@ use prog.Memory.{Memory}
 use prog.Routine.{Routine}
 use prog.Wp.{Heap}
 use denote.Ref.{now}
-use Rattle.rows.proofs.column.row_count.Reads as row-count
-use Rattle.rows.proofs.column.entry.Reads as entry
+use Rattle.columns.proofs.row_count.Reads as row-count
+use Rattle.columns.proofs.entry.Reads as entry
+use Rattle.columns.proofs.column_entry as column-entry
+use Rattle.columns.proofs.Column.num_rows as num-rows
+use Rattle.columns.proofs.Column.get as get
 use Rattle.rows.proofs.hash_rows.hash_rows_of_columns.Reads as hash-rows-of-columns
-use Rattle.rows.proofs.column.column_entry as column-entry
-use Rattle.rows.proofs.column.Column.num_rows as num-rows
-use Rattle.rows.proofs.column.Column.get as get
 use Rattle.draws.proofs.sample_indices.Reads as sample-indices
 use Rattle.outcomes.specs.Outcome.{OneAnswer, OneExit, OneOutcome}
 use Rattle.outcomes.proofs.Same.{both, same}

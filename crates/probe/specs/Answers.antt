@@ -11,8 +11,8 @@ use Rattle.sponge.specs.declared.by_value.SpongeAnswer.{SpongeAnswer}
 use Rattle.sponge.specs.declared.by_value.SqueezeAnswer.{SqueezeAnswer}
 use Rattle.sponge.specs.declared.digest.DigestAnswer.{DigestAnswer}
 use Rattle.sponge.specs.declared.Tip5.{Tip5}
-use Rattle.rows.specs.declared.column.CountAnswer.{CountAnswer}
-use Rattle.rows.specs.declared.column.EntryAnswer.{EntryAnswer}
+use Rattle.columns.specs.declared.CountAnswer.{CountAnswer}
+use Rattle.columns.specs.declared.EntryAnswer.{EntryAnswer}
 use Rattle.draws.specs.declared.DrawAnswer.{DrawAnswer}
 
 -- The field and the permutation

@@ -2,7 +2,7 @@
 use states::in_place;
 ghost use mathlib.Core.Path.{_≡_};
 ghost use Rattle.rounds.specs.Inverse.{invPermuted, invRound};
-ghost use Rattle.tip5.specs.Judge.{unless};
+ghost use Rattle.refusals.specs.Judge.{unless};
 ghost use Rattle.states.specs.InPlace.{roundSliceRefusal, sliceRefusal};
 
 #[no_mangle]

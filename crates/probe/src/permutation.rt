@@ -8,7 +8,7 @@ ghost use Rattle.numbers.specs.Circulant.{rowSum};
 ghost use Rattle.matrix.specs.Column.{mdsColumn};
 ghost use Rattle.rounds.specs.Round.{permuted};
 ghost use Rattle.rounds.specs.Round as Round;
-ghost use Rattle.tip5.specs.Judge.{unless};
+ghost use Rattle.refusals.specs.Judge.{unless};
 ghost use Rattle.states.specs.InPlace.{roundSliceRefusal, sliceRefusal};
 ghost use Rattle.states.specs.Trace as Trace;
 ghost use Rattle.probe.specs.Answers.{traceAnswer};

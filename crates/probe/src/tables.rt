@@ -1,10 +1,9 @@
 // Tables: the digests of their rows, and a view of one column.
-use rows::column;
-use rows::column::Column;
-use rows::column::CountAnswer;
+use columns::Column;
+use columns::CountAnswer;
 use rows::hash_rows;
 ghost use mathlib.Core.Path.{_≡_};
-ghost use Rattle.rows.specs.Column.{entry, rowCount};
+ghost use Rattle.columns.specs.Column.{entry, rowCount};
 ghost use Rattle.rows.specs.Rows.{hashedRows, rowsRefusal};
 ghost use Rattle.probe.specs.Answers.{countAnswer, entryAnswer};
 
@@ -31,7 +30,7 @@ pub extern "C" fn probe_row_count(
 ) -> u32
     ensures { λ r. ⌜ countAnswer r (now (count .exit)) ≡ rowCount (now (words .entry)) stride offset ⌝ }
 {
-    let answer = column::row_count(words, stride, offset);
+    let answer = columns::row_count(words, stride, offset);
     *count = answer.count as u64;
     answer.refusal as u32
 }
@@ -46,7 +45,7 @@ pub extern "C" fn probe_entry(
 ) -> u32
     ensures { λ r. ⌜ entryAnswer r (now (word .exit)) ≡ entry (now (words .entry)) stride offset row ⌝ }
 {
-    let answer = column::entry(words, stride, offset, row);
+    let answer = columns::entry(words, stride, offset, row);
     *word = answer.word;
     answer.refusal as u32
 }
@@ -61,7 +60,7 @@ pub extern "C" fn probe_column_entry(
 ) -> u32
     ensures { λ r. ⌜ entryAnswer r (now (word .exit)) ≡ entry (now (words .entry)) stride offset row ⌝ }
 {
-    let answer = column::column_entry(words, stride, offset, row);
+    let answer = columns::column_entry(words, stride, offset, row);
     *word = answer.word;
     answer.refusal as u32
 }

@@ -1,10 +1,18 @@
-// What the tables are. Nothing calls these functions: a constant has no contract, so each function
-// says by its own what one table is, entry by entry.
+// What the public constants are. Nothing calls these functions: a constant has no contract, so each function says by its
+// own what one constant is, a table entry by entry.
+use crate::P;
 use crate::inverse_tables;
 use crate::tables;
 ghost use mathlib.Core.Path.{_≡_};
+ghost use Rattle.numbers.specs.Modulus as Modulus;
 ghost use Rattle.rounds.specs.InverseTables.{invLookupTable, rawInvColumn};
 ghost use Rattle.rounds.specs.Tables.{lookupTable, rawConstants};
+
+fn p_is() -> u64
+    ensures { λ r. ⌜ r ≡ Modulus.P ⌝ }
+{
+    P
+}
 
 fn lookup_table_is() -> [u8; 256]
     ensures { λ r. ⌜ r ≡ lookupTable ⌝ }

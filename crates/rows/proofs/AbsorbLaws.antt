@@ -5,7 +5,7 @@ use mathlib.Core.Path.{_≡_, ap, _∙_}
 use Prim.Native.Nat.{ℕ}
 use lib.ListN.{length}
 use Rattle.rounds.specs.Field.{Below}
-use Rattle.tip5.proofs.AnswerLaws.{unless-granted}
+use Rattle.refusals.proofs.UnlessLaws.{unless-granted}
 use Rattle.sponge.specs.declared.by_value.SpongeAnswer.{SpongeAnswer}
 use Rattle.sponge.specs.declared.Tip5.{Tip5}
 use Rattle.sponge.specs.Answers.{absorb}

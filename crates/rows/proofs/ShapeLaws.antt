@@ -9,9 +9,9 @@ use borrow.Author.Tests.{eqb-true}
 use lib.Dec.{eqb}
 use lib.ListN.{length}
 use Rattle.numbers.proofs.Tests.{passed}
-use Rattle.tip5.specs.Judge.{lengthRefusal, wordRefusal}
-use Rattle.tip5.proofs.RefusalLaws.{accepted-length, none-first}
-use Rattle.tip5.proofs.JudgeLaws.{accepted-below}
+use Rattle.refusals.specs.Judge.{lengthRefusal, wordRefusal}
+use Rattle.refusals.proofs.RefusalLaws.{accepted-length, none-first}
+use Rattle.refusals.proofs.JudgeLaws.{accepted-below}
 use Rattle.rows.specs.declared.row.Shape.{Shape}
 use Rattle.rows.specs.Rows.{digestCount, rowsRefusal, sizeRefusal, widthRefusal}
 use Rattle.rows.specs.Table.{Table}

@@ -12,8 +12,8 @@ use lib.Seq.{getD-drop, getD-take, length-take-le}
 use Rattle.rounds.specs.Field.{Below}
 use Rattle.sponge.proofs.BelowLaws.{drop-below, take-below}
 use Rattle.sponge.proofs.ListLaws.{part-of}
+use Rattle.columns.specs.Column.{entry, wordAt}
 use Rattle.rows.specs.declared.row.Shape.{Shape}
-use Rattle.rows.specs.Column.{entry, wordAt}
 use Rattle.rows.specs.Rows.{columnOf, entryOf, row}
 use Rattle.rows.specs.Table.{Table, columnIn, entryIn, rowIn}
 use Rattle.rows.proofs.JoinedLaws.{joined-at, joined-below, joined-length}

@@ -1,4 +1,3 @@
 -- The definitions that the contracts of rows cite.
-pub mod Column
 pub mod Rows
 pub mod Table

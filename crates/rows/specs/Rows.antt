@@ -5,7 +5,7 @@ use mathlib.Core.List.{List, [], _∷_, _++_}
 use Prim.Native.Nat.{ℕ, zero, suc, _*_}
 use lib.Dec.{eqb}
 use lib.ListN.{drop, length, take}
-use Rattle.tip5.specs.Judge.{first, lengthRefusal, unless, wordRefusal}
+use Rattle.refusals.specs.Judge.{first, lengthRefusal, unless, wordRefusal}
 use Rattle.sponge.specs.Digest.{digestOf}
 
 -- lists 0, 1, .., n of them, one after another

@@ -5,7 +5,6 @@ use crate::row::Shape;
 use crate::row::row_sponge;
 use sponge::DIGEST_LENGTH;
 use sponge::Tip5;
-use tip5::refusal;
 ghost use mathlib.Core.Path.{_≡_};
 ghost use Prim.Native.Nat.{_+_, _*_, _≤_};
 ghost use lib.ListN.{length};
@@ -59,7 +58,7 @@ pub fn hash_rows_of_columns(
         width,
     };
     let refusal = judge_rows(words, shape, digests);
-    if refusal != refusal::NONE {
+    if refusal != refusals::NONE {
         return refusal;
     }
     let count = digest_count(shape);

@@ -1,12 +1,11 @@
 // Judging before a digest is written: 7 for a wrong shape, then 2 for the room, then 1 for a bad word.
 use crate::row::Shape;
+use refusals::judge::judge_words;
 use sponge::DIGEST_LENGTH;
-use tip5::judge::judge_words;
-use tip5::refusal;
 ghost use mathlib.Core.Path.{_≡_};
 ghost use Prim.Native.Nat.{_*_, _<_};
 ghost use lib.Dec.{eqb};
-ghost use Rattle.tip5.specs.Judge.{lengthRefusal};
+ghost use Rattle.refusals.specs.Judge.{lengthRefusal};
 ghost use Rattle.rows.specs.Rows.{digestCount, rowsRefusal, sizeRefusal, widthRefusal};
 
 // Whether n is a * b as whole numbers: by division, since the product may be longer than a word.
@@ -27,12 +26,12 @@ fn judge_width(width: usize) -> u8
     ensures { λ r. ⌜ r ≡ widthRefusal width ⌝ }
 {
     if width == 1 {
-        return refusal::NONE;
+        return refusals::NONE;
     }
     if width == 3 {
-        return refusal::NONE;
+        return refusals::NONE;
     }
-    refusal::WRONG_SHAPE
+    refusals::WRONG_SHAPE
 }
 
 // Refusal 7 where the words are not as many as the columns have.
@@ -41,12 +40,12 @@ fn judge_size(words: &[u64], shape: Shape) -> u8
     ensures { λ r. ⌜ r ≡ sizeRefusal (now (words .entry)) (shape .columns) (shape .rows) (shape .width) ⌝ }
 {
     if words.len() % shape.width != 0 {
-        return refusal::WRONG_SHAPE;
+        return refusals::WRONG_SHAPE;
     }
     if is_product(words.len() / shape.width, shape.columns, shape.rows) {
-        return refusal::NONE;
+        return refusals::NONE;
     }
-    refusal::WRONG_SHAPE
+    refusals::WRONG_SHAPE
 }
 
 // As many digests as rows, and none at zero columns.
@@ -65,9 +64,9 @@ fn judge_room(shape: Shape, room: &[u64]) -> u8
 {
     let count = digest_count(shape);
     if is_product(room.len(), DIGEST_LENGTH, count) {
-        return refusal::NONE;
+        return refusals::NONE;
     }
-    refusal::WRONG_LENGTH
+    refusals::WRONG_LENGTH
 }
 
 // The first refusal.
@@ -75,15 +74,15 @@ pub(crate) fn judge_rows(words: &[u64], shape: Shape, room: &[u64]) -> u8
     ensures { λ r. ⌜ r ≡ rowsRefusal (now (words .entry)) (shape .columns) (shape .rows) (shape .width) (now (room .entry)) ⌝ }
 {
     let refusal = judge_width(shape.width);
-    if refusal != refusal::NONE {
+    if refusal != refusals::NONE {
         return refusal;
     }
     let refusal = judge_size(words, shape);
-    if refusal != refusal::NONE {
+    if refusal != refusals::NONE {
         return refusal;
     }
     let refusal = judge_room(shape, room);
-    if refusal != refusal::NONE {
+    if refusal != refusals::NONE {
         return refusal;
     }
     judge_words(words)

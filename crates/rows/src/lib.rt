@@ -1,5 +1,4 @@
-// Rows of columns: a view of one column, and the digests of all rows.
-pub mod column;
+// Rows of columns: the digests of all rows.
 pub mod hash_rows;
 mod judge;
 mod row;

@@ -1,5 +1,5 @@
 // One row of a table, fed to a sponge ten words at a time: no buffer holds a whole row.
-use crate::column::column_entry;
+use columns::column_entry;
 use sponge::RATE;
 use sponge::Tip5;
 use sponge::by_value::absorb;

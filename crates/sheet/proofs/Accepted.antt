@@ -11,9 +11,9 @@ use Rattle.numbers.proofs.Tests.{passed}
 use Rattle.rounds.specs.Field.{rawOf}
 use Rattle.rounds.proofs.FieldLaws.{rawOf-below}
 use Rattle.rounds.proofs.RoundLaws.{tab-below}
-use Rattle.tip5.specs.Judge.{wordRefusal}
-use Rattle.tip5.proofs.JudgeLaws.{below-accepted}
-use Rattle.tip5.proofs.RefusalLaws.{none-refuses}
+use Rattle.refusals.specs.Judge.{wordRefusal}
+use Rattle.refusals.proofs.JudgeLaws.{below-accepted}
+use Rattle.refusals.proofs.RefusalLaws.{none-refuses}
 use Rattle.sheet.specs.Sheet.{elementLimit, fieldRefusals, headerOf, refusals, sheetRefusal, value, valueRefusal, wordsOf}
 
 -- what each refusal that did not come says

@@ -5,8 +5,8 @@ use mathlib.Core.List.{List}
 use Prim.Native.Nat.{ℕ, zero, suc, _+_, _*_, _^_, _<_}
 use borrow.Author.Tests.{eq-eqb, ne-eqb}
 use lib.ListN.{length, take, drop}
-use Rattle.tip5.specs.Judge.{first}
-use Rattle.tip5.proofs.RefusalLaws.{first-one, first-past, first-stops}
+use Rattle.refusals.specs.Judge.{first}
+use Rattle.refusals.proofs.RefusalLaws.{first-one, first-past, first-stops}
 use Rattle.sheet.specs.declared.header.Header.{Header}
 use Rattle.sheet.specs.declared.header.HeaderAnswer.{HeaderAnswer}
 use Rattle.sheet.specs.Sheet.{

@@ -6,7 +6,7 @@ use Prim.Native.Nat.{ℕ, _+_, _*_, _≤_, _<_}
 use native.Mathlib.Nat.{le-of-suc-le-suc, le-trans}
 use lib.Dec.{lit≤}
 use lib.ListN.{drop, length, take}
-use Rattle.tip5.proofs.AnswerLaws.{unless-granted, unless-refused}
+use Rattle.refusals.proofs.UnlessLaws.{unless-granted, unless-refused}
 use Rattle.sheet.specs.declared.header.Header.{Header}
 use Rattle.sheet.specs.declared.header.HeaderAnswer.{HeaderAnswer}
 use Rattle.sheet.specs.Header.{noHeader}

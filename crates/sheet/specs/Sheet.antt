@@ -6,7 +6,7 @@ use lib.Dec.{eqb, leb, ltb}
 use lib.ListN.{length, take, drop}
 use Rattle.numbers.specs.Lists.{tab}
 use Rattle.rounds.specs.Field.{rawOf}
-use Rattle.tip5.specs.Judge.{first, unless, wordRefusal}
+use Rattle.refusals.specs.Judge.{first, unless, wordRefusal}
 use Rattle.sheet.specs.declared.header.Header.{Header}
 use Rattle.sheet.specs.declared.header.HeaderAnswer.{HeaderAnswer}
 use Rattle.sheet.specs.Bits.{number}

@@ -1,6 +1,5 @@
 // The header of a sheet.
 use crate::bits::field;
-use tip5::refusal;
 ghost use mathlib.Core.Path.{_≡_};
 ghost use lib.ListN.{length};
 ghost use Rattle.sheet.specs.Header.{header};
@@ -59,10 +58,10 @@ pub fn read_header(sheet: &[u8]) -> HeaderAnswer
     ensures { λ r. ⌜ r ≡ readHeader (now (sheet .entry)) ⌝ }
 {
     if sheet.len() < 6 {
-        return refused(refusal::WRONG_SHEET_LENGTH);
+        return refused(refusals::WRONG_SHEET_LENGTH);
     }
     HeaderAnswer {
-        refusal: refusal::NONE,
+        refusal: refusals::NONE,
         header: fields(&sheet[..6]),
     }
 }

@@ -5,11 +5,10 @@ use crate::header::HeaderAnswer;
 use crate::header::read_header;
 use crate::header::refused;
 use tip5::b_field_element::BFieldElement;
-use tip5::refusal;
 ghost use mathlib.Core.Path.{_≡_};
 ghost use Prim.Native.Nat.{_+_, _*_, _^_, _<_};
 ghost use lib.ListN.{drop, length};
-ghost use Rattle.tip5.specs.Judge.{first};
+ghost use Rattle.refusals.specs.Judge.{first};
 ghost use Rattle.sheet.specs.Sheet.{fieldRefusal, judgeSheet, refusals, valueRefusal};
 
 // The most elements that a sheet may have.
@@ -21,15 +20,15 @@ fn judge_fields(h: Header) -> u8
     ensures { λ r. ⌜ r ≡ fieldRefusal h ⌝ }
 {
     if h.version != 1 {
-        return refusal::BAD_HEADER;
+        return refusals::BAD_HEADER;
     }
     if 2 <= h.job {
-        return refusal::BAD_HEADER;
+        return refusals::BAD_HEADER;
     }
     if ELEMENT_LIMIT < h.elements {
-        return refusal::BAD_HEADER;
+        return refusals::BAD_HEADER;
     }
-    refusal::NONE
+    refusals::NONE
 }
 
 // Refusal 1 where one of the first n values is P or more.
@@ -40,11 +39,11 @@ fn judge_values(sheet: &[u8], n: usize) -> u8
     let mut i = 0;
     while i < n {
         if BFieldElement::P <= elements::value(sheet, i) {
-            return refusal::BAD_WORD;
+            return refusals::BAD_WORD;
         }
         i += 1;
     }
-    refusal::NONE
+    refusals::NONE
 }
 
 // The first refusal of a sheet with the header h: that of its fields, of its length, of its values.
@@ -53,11 +52,11 @@ fn judge_past_header(sheet: &[u8], h: Header) -> u8
     ensures { λ r. ⌜ r ≡ first (drop 1 (refusals h (now (sheet .entry)))) ⌝ }
 {
     let fields = judge_fields(h);
-    if fields != refusal::NONE {
+    if fields != refusals::NONE {
         return fields;
     }
     if sheet.len() != 6 + 8 * h.elements {
-        return refusal::WRONG_SHEET_LENGTH;
+        return refusals::WRONG_SHEET_LENGTH;
     }
     judge_values(sheet, h.elements)
 }
@@ -67,11 +66,11 @@ pub fn judge_sheet(sheet: &[u8]) -> HeaderAnswer
     ensures { λ r. ⌜ r ≡ judgeSheet (now (sheet .entry)) ⌝ }
 {
     let read = read_header(sheet);
-    if read.refusal != refusal::NONE {
+    if read.refusal != refusals::NONE {
         return read;
     }
     let found = judge_past_header(sheet, read.header);
-    if found != refusal::NONE {
+    if found != refusals::NONE {
         return refused(found);
     }
     read

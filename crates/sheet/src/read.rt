@@ -2,7 +2,6 @@
 use crate::elements;
 use crate::header::HeaderAnswer;
 use crate::judge::judge_sheet;
-use tip5::refusal;
 ghost use mathlib.Core.List.{_++_};
 ghost use mathlib.Core.Path.{_≡_};
 ghost use Prim.Native.Nat.{_+_, _*_, _≤_};
@@ -27,7 +26,7 @@ pub fn read_sheet(sheet: &[u8], words: &mut [u64; 8192]) -> HeaderAnswer
     ensures { λ r. ⌜ (r ≡ judgeSheet (now (sheet .entry))) × (now (words .exit) ≡ readWords (now (sheet .entry)) (now (words .entry))) ⌝ }
 {
     let judged = judge_sheet(sheet);
-    if judged.refusal != refusal::NONE {
+    if judged.refusal != refusals::NONE {
         return judged;
     }
     put_words(sheet, judged.header.elements, words);

@@ -5,9 +5,9 @@ use mathlib.Core.Path.{_≡_, refl}
 use Prim.Native.Nat.{ℕ}
 use lib.ListN.{length}
 use Rattle.rounds.specs.Field.{Below}
-use Rattle.tip5.specs.Judge.{lengthRefusal, wordRefusal}
-use Rattle.tip5.proofs.JudgeLaws.{accepted-below, below-accepted}
-use Rattle.tip5.proofs.RefusalLaws.{accepted-length, first-none, length-accepted, none-first}
+use Rattle.refusals.specs.Judge.{lengthRefusal, wordRefusal}
+use Rattle.refusals.proofs.JudgeLaws.{accepted-below, below-accepted}
+use Rattle.refusals.proofs.RefusalLaws.{accepted-length, first-none, length-accepted, none-first}
 use Rattle.sponge.specs.declared.step_back.StepKind.the-variants.{Squeeze}
 use Rattle.sponge.specs.declared.Tip5.{Tip5}
 use Rattle.sponge.specs.Answers.{absorbRefusal, hash10Refusal, hashPairRefusal, padRefusal, stepBackRefusal}

@@ -4,11 +4,11 @@ use mathlib.Core.List.{List}
 use mathlib.Core.Path.{_≡_, ap, sym, _∙_}
 use Prim.Native.Nat.{ℕ}
 use Rattle.rounds.specs.Field.{Below}
+use Rattle.refusals.specs.Judge.{unless, wordRefusal}
+use Rattle.refusals.proofs.UnlessLaws.{unless-granted, unless-refused}
+use Rattle.refusals.proofs.JudgeLaws.{below-accepted}
 use Rattle.tip5.specs.declared.permutation.StateAnswer.{StateAnswer}
-use Rattle.tip5.specs.Judge.{unless, wordRefusal}
 use Rattle.tip5.specs.Permutation.{nextState}
-use Rattle.tip5.proofs.AnswerLaws.{unless-granted, unless-refused}
-use Rattle.tip5.proofs.JudgeLaws.{below-accepted}
 use Rattle.sponge.specs.declared.by_value.SqueezeAnswer.{SqueezeAnswer}
 use Rattle.sponge.specs.declared.digest.DigestAnswer.{DigestAnswer}
 use Rattle.sponge.specs.declared.Tip5.{Tip5}

@@ -10,7 +10,7 @@ use Rattle.numbers.specs.Lists.{tab}
 use Rattle.rounds.specs.Field.{Below}
 use Rattle.rounds.proofs.RoundLaws.{permuted-below, permuted-length}
 use Rattle.rounds.proofs.RoundTrip.{invPermuted-permuted}
-use Rattle.tip5.proofs.JudgeLaws.{allBelow-below}
+use Rattle.refusals.proofs.JudgeLaws.{allBelow-below}
 use Rattle.sponge.specs.declared.Domain.{Domain}
 use Rattle.sponge.specs.declared.Domain.the-variants.{VariableLength, FixedLength}
 use Rattle.sponge.specs.declared.Tip5.{Tip5}

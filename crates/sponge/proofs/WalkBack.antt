@@ -5,8 +5,8 @@ use mathlib.Core.List.{List, [], _∷_, reverse, reverseAux}
 use mathlib.Core.Path.{_≡_, refl, ap, ap₂, _∙_}
 use Prim.Native.Nat.{ℕ, zero, suc}
 use lib.ListN.{drop, length, replicate, take}
-use Rattle.tip5.specs.Judge.{unless}
-use Rattle.tip5.proofs.JudgeLaws.{accepted-below}
+use Rattle.refusals.specs.Judge.{unless}
+use Rattle.refusals.proofs.JudgeLaws.{accepted-below}
 use Rattle.sponge.specs.declared.by_value.SpongeAnswer.{SpongeAnswer}
 use Rattle.sponge.specs.declared.step_back.StepKind.{StepKind}
 use Rattle.sponge.specs.declared.step_back.StepKind.the-variants.{Squeeze, Absorb}

@@ -3,7 +3,7 @@
 use mathlib.Core.List.{List, [], _∷_}
 use Prim.Native.Nat.{ℕ}
 use lib.ListN.{replicate}
-use Rattle.tip5.specs.Judge.{first, lengthRefusal, unless, wordRefusal}
+use Rattle.refusals.specs.Judge.{first, lengthRefusal, unless, wordRefusal}
 use Rattle.sponge.specs.declared.by_value.SpongeAnswer.{SpongeAnswer}
 use Rattle.sponge.specs.declared.by_value.SqueezeAnswer.{SqueezeAnswer}
 use Rattle.sponge.specs.declared.digest.DigestAnswer.{DigestAnswer}

@@ -7,7 +7,6 @@ use crate::judge::judge_sponge;
 use crate::padding::last_ten;
 use crate::put::put;
 use tip5::permutation::permutation;
-use tip5::refusal;
 ghost use mathlib.Core.Path.{_≡_};
 ghost use Prim.Native.Nat.{_<_};
 ghost use lib.ListN.{getD, length};
@@ -91,7 +90,7 @@ pub fn absorb(sponge: Tip5, ten: &[u64]) -> SpongeAnswer
     ensures { λ r. ⌜ r ≡ Answers.absorb sponge (now (ten .entry)) ⌝ }
 {
     let refusal = judge_absorb(sponge, ten);
-    if refusal != refusal::NONE {
+    if refusal != refusals::NONE {
         return SpongeAnswer { refusal, sponge };
     }
     SpongeAnswer {
@@ -105,7 +104,7 @@ pub fn squeeze(sponge: Tip5) -> SqueezeAnswer
     ensures { λ r. ⌜ r ≡ Answers.squeeze sponge ⌝ }
 {
     let refusal = judge_sponge(sponge);
-    if refusal != refusal::NONE {
+    if refusal != refusals::NONE {
         return SqueezeAnswer {
             refusal,
             sponge,
@@ -126,7 +125,7 @@ pub fn pad_and_absorb_all(sponge: Tip5, input: &[u64]) -> SpongeAnswer
     ensures { λ r. ⌜ r ≡ padAndAbsorbAll sponge (now (input .entry)) ⌝ }
 {
     let refusal = judge_input(sponge, input);
-    if refusal != refusal::NONE {
+    if refusal != refusals::NONE {
         return SpongeAnswer { refusal, sponge };
     }
     SpongeAnswer {

@@ -6,8 +6,7 @@ use crate::by_value::absorbed_all;
 use crate::judge::judge_hash_10;
 use crate::judge::judge_hash_pair;
 use crate::put::put;
-use tip5::judge::judge_words;
-use tip5::refusal;
+use refusals::judge::judge_words;
 ghost use mathlib.Core.List.{_++_};
 ghost use mathlib.Core.Path.{_≡_};
 ghost use lib.ListN.{getD, length};
@@ -74,7 +73,7 @@ impl Tip5 {
         ensures { λ r. ⌜ r ≡ hash10 (now (input .entry)) ⌝ }
     {
         let refusal = judge_hash_10(input);
-        if refusal != refusal::NONE {
+        if refusal != refusals::NONE {
             return DigestAnswer {
                 refusal,
                 digest: [0; 5],
@@ -91,7 +90,7 @@ impl Tip5 {
         ensures { λ r. ⌜ r ≡ hashPair (now (left .entry)) (now (right .entry)) ⌝ }
     {
         let refusal = judge_hash_pair(left, right);
-        if refusal != refusal::NONE {
+        if refusal != refusals::NONE {
             return DigestAnswer {
                 refusal,
                 digest: [0; 5],
@@ -108,7 +107,7 @@ impl Tip5 {
         ensures { λ r. ⌜ r ≡ hashVarlen (now (input .entry)) ⌝ }
     {
         let refusal = judge_words(input);
-        if refusal != refusal::NONE {
+        if refusal != refusals::NONE {
             return DigestAnswer {
                 refusal,
                 digest: [0; 5],

@@ -2,23 +2,12 @@
 use crate::DIGEST_LENGTH;
 use crate::RATE;
 use crate::Tip5;
-use tip5::judge::judge_words;
-use tip5::refusal;
+use refusals::judge::judge_length;
+use refusals::judge::judge_words;
 ghost use mathlib.Core.Path.{_≡_};
-ghost use Rattle.tip5.specs.Judge.{lengthRefusal, wordRefusal};
+ghost use Rattle.refusals.specs.Judge.{wordRefusal};
 ghost use Rattle.sponge.specs.declared.step_back.StepKind.the-variants.{Squeeze};
 ghost use Rattle.sponge.specs.Answers.{absorbRefusal, hash10Refusal, hashPairRefusal, padRefusal, stepBackRefusal};
-
-// Refusal 2 where there are not as many words as wanted.
-fn judge_length(wanted: usize, words: &[u64]) -> u8
-    ensures { λ r. ⌜ r ≡ lengthRefusal wanted (now (words .entry)) ⌝ }
-{
-    if words.len() == wanted {
-        refusal::NONE
-    } else {
-        refusal::WRONG_LENGTH
-    }
-}
 
 // Refusal 1 where a word of the sponge is P or more.
 pub(crate) fn judge_sponge(sponge: Tip5) -> u8
@@ -33,7 +22,7 @@ pub(crate) fn judge_input(sponge: Tip5, input: &[u64]) -> u8
     ensures { λ r. ⌜ r ≡ padRefusal sponge (now (input .entry)) ⌝ }
 {
     let refusal = judge_sponge(sponge);
-    if refusal != refusal::NONE {
+    if refusal != refusals::NONE {
         return refusal;
     }
     judge_words(input)
@@ -44,7 +33,7 @@ pub(crate) fn judge_absorb(sponge: Tip5, ten: &[u64]) -> u8
     ensures { λ r. ⌜ r ≡ absorbRefusal sponge (now (ten .entry)) ⌝ }
 {
     let refusal = judge_length(RATE, ten);
-    if refusal != refusal::NONE {
+    if refusal != refusals::NONE {
         return refusal;
     }
     judge_input(sponge, ten)
@@ -55,7 +44,7 @@ pub(crate) fn judge_places(sponge: Tip5, places: &[u64]) -> u8
     ensures { λ r. ⌜ r ≡ stepBackRefusal Squeeze sponge (now (places .entry)) ⌝ }
 {
     let refusal = judge_length(RATE, places);
-    if refusal != refusal::NONE {
+    if refusal != refusals::NONE {
         return refusal;
     }
     judge_sponge(sponge)
@@ -66,7 +55,7 @@ pub(crate) fn judge_hash_10(ten: &[u64]) -> u8
     ensures { λ r. ⌜ r ≡ hash10Refusal (now (ten .entry)) ⌝ }
 {
     let refusal = judge_length(RATE, ten);
-    if refusal != refusal::NONE {
+    if refusal != refusals::NONE {
         return refusal;
     }
     judge_words(ten)
@@ -77,15 +66,15 @@ pub(crate) fn judge_hash_pair(left: &[u64], right: &[u64]) -> u8
     ensures { λ r. ⌜ r ≡ hashPairRefusal (now (left .entry)) (now (right .entry)) ⌝ }
 {
     let refusal = judge_length(DIGEST_LENGTH, left);
-    if refusal != refusal::NONE {
+    if refusal != refusals::NONE {
         return refusal;
     }
     let refusal = judge_length(DIGEST_LENGTH, right);
-    if refusal != refusal::NONE {
+    if refusal != refusals::NONE {
         return refusal;
     }
     let refusal = judge_words(left);
-    if refusal != refusal::NONE {
+    if refusal != refusals::NONE {
         return refusal;
     }
     judge_words(right)

@@ -6,7 +6,6 @@ use crate::by_value::overwrite;
 use crate::judge::judge_absorb;
 use crate::judge::judge_places;
 use tip5::inverse::inv_permutation;
-use tip5::refusal;
 ghost use mathlib.Core.Path.{_≡_};
 ghost use lib.ListN.{length};
 ghost use Rattle.rounds.specs.Field.{Below};
@@ -43,7 +42,7 @@ fn squeeze_back(sponge: Tip5, places: &[u64]) -> SpongeAnswer
     ensures { λ r. ⌜ r ≡ stepBack StepKind.Squeeze sponge (now (places .entry)) ⌝ }
 {
     let refusal = judge_places(sponge, places);
-    if refusal != refusal::NONE {
+    if refusal != refusals::NONE {
         return SpongeAnswer { refusal, sponge };
     }
     SpongeAnswer {
@@ -56,7 +55,7 @@ fn absorb_back(sponge: Tip5, saved: &[u64]) -> SpongeAnswer
     ensures { λ r. ⌜ r ≡ stepBack StepKind.Absorb sponge (now (saved .entry)) ⌝ }
 {
     let refusal = judge_absorb(sponge, saved);
-    if refusal != refusal::NONE {
+    if refusal != refusals::NONE {
         return SpongeAnswer { refusal, sponge };
     }
     SpongeAnswer {

@@ -8,16 +8,16 @@ use native.Mathlib.Omega.{arith}
 use borrow.Author.Tests.{eq-eqb, ne-eqb}
 use Rattle.rounds.specs.Field.{Below}
 use Rattle.rounds.specs.Round.{round, rounds}
-use Rattle.tip5.specs.Judge.{wordRefusal}
+use Rattle.refusals.specs.Judge.{wordRefusal}
+use Rattle.refusals.proofs.UnlessLaws.{unless-granted}
+use Rattle.refusals.proofs.RefusalLaws.{round-judged}
+use Rattle.refusals.proofs.JudgeLaws.{below-accepted}
 use Rattle.tip5.specs.Permutation.{oneRound}
-use Rattle.tip5.proofs.AnswerLaws.{unless-granted}
-use Rattle.tip5.proofs.RefusalLaws.{round-accepted}
-use Rattle.tip5.proofs.JudgeLaws.{below-accepted}
 use Rattle.states.specs.Entering.{entering}
 
 -- the state that a call for one round answers, where it is not refused
 pub round-granted : {i : ℕ} (s : List ℕ) → i < 5 → Below s → oneRound i s .state ≡ round i s
-round-granted s h b = unless-granted (round _ s) s (round-accepted (wordRefusal s) h ∙ below-accepted s b)
+round-granted s h b = unless-granted (round _ s) s (round-judged (wordRefusal s) h ∙ below-accepted s b)
 
 -- what `entering` is in its three cases
 

@@ -2,8 +2,7 @@
 -- or more.
 use mathlib.Core.List.{List, [], _∷_}
 use Prim.Native.Nat.{ℕ}
-use Rattle.tip5.specs.Judge.{first, lengthRefusal, wordRefusal}
-use Rattle.tip5.specs.Permutation.{roundRefusal}
+use Rattle.refusals.specs.Judge.{first, lengthRefusal, wordRefusal, roundRefusal}
 
 abbrev pub sliceRefusal : List ℕ → ℕ
 sliceRefusal s = first (lengthRefusal 16 s ∷ wordRefusal s ∷ [])

@@ -1,19 +1,19 @@
 // The permutation, its rounds and the way back on a lent slice of sixteen words, in place. Each call
 // judges the slice, and then the words, before anything moves.
+use refusals::judge::judge_round;
 use tip5::inverse::inv_permutation;
 use tip5::inverse::inv_round;
 use tip5::permutation::StateAnswer;
 use tip5::permutation::Way;
 use tip5::permutation::permutation;
 use tip5::permutation::round;
-use tip5::refusal;
 ghost use mathlib.Core.Path.{_≡_};
 ghost use Prim.Native.Nat.{_≤_};
 ghost use lib.ListN.{length};
 ghost use Rattle.rounds.specs.Inverse.{invPermuted, invRound};
 ghost use Rattle.rounds.specs.Round.{permuted};
 ghost use Rattle.rounds.specs.Round as Round;
-ghost use Rattle.tip5.specs.Judge.{unless};
+ghost use Rattle.refusals.specs.Judge.{unless};
 ghost use Rattle.tip5.specs.Moves.{moved, movedAnswer, roundOf};
 ghost use Rattle.states.specs.InPlace.{roundSliceRefusal, sliceRefusal};
 
@@ -82,7 +82,7 @@ fn judged_slice(way: Way, which: usize, state: &mut [u64]) -> u8
     ensures { λ r. ⌜ now (state .exit) ≡ unless (sliceRefusal (now (state .entry))) (moved way which (now (state .entry))) (now (state .entry)) ⌝ }
 {
     if state.len() != 16 {
-        return refusal::WRONG_LENGTH;
+        return refusals::WRONG_LENGTH;
     }
     let answer = answered(way, which, sixteen(state));
     let next = answer.state;
@@ -94,8 +94,9 @@ fn judged_slice_round(way: Way, round: usize, state: &mut [u64]) -> u8
     ensures { λ r. ⌜ r ≡ roundSliceRefusal round (now (state .entry)) ⌝ }
     ensures { λ r. ⌜ now (state .exit) ≡ unless (roundSliceRefusal round (now (state .entry))) (roundOf way round (now (state .entry))) (now (state .entry)) ⌝ }
 {
-    if 5 <= round {
-        return refusal::NO_SUCH_ROUND;
+    let refusal = judge_round(round);
+    if refusal != refusals::NONE {
+        return refusal;
     }
     judged_slice(way, round, state)
 }

@@ -1,7 +1,6 @@
 // The trace: the state at entry and after each round.
-use tip5::judge::judge_words;
+use refusals::judge::judge_words;
 use tip5::permutation::round;
-use tip5::refusal;
 ghost use mathlib.Core.Path.{_≡_};
 ghost use Prim.Native.Nat.{_<_};
 ghost use Rattle.rounds.specs.Field.{Below};
@@ -52,7 +51,7 @@ pub fn trace(state: [u64; 16]) -> TraceAnswer
     ensures { λ r. ⌜ r ≡ Trace.trace state ⌝ }
 {
     let refusal = judge_words(&state);
-    if refusal != refusal::NONE {
+    if refusal != refusals::NONE {
         return TraceAnswer {
             refusal,
             states: [0u64; 96],

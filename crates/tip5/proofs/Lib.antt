@@ -1,12 +1,10 @@
 -- The laws of this crate's definitions.
 pub mod AnswerLaws
 pub mod HalvesLaws
-pub mod JudgeLaws
 pub mod LentTables
 pub mod MendedLaws
 pub mod MovesLaws
 pub mod PowersLaws
 pub mod ReducedLaws
-pub mod RefusalLaws
 pub mod RowLaws
 pub mod SboxLaws

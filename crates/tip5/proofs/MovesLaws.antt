@@ -4,11 +4,11 @@ use mathlib.Core.List.{List}
 use mathlib.Core.Path.{_≡_, ap, ap₂, sym}
 use Prim.Native.Nat.{ℕ, _<_}
 use borrow.Author.Tests.{lt-ltb}
+use Rattle.refusals.specs.Judge.{wordRefusal}
+use Rattle.refusals.proofs.RefusalLaws.{round-judged}
 use Rattle.tip5.specs.declared.permutation.Way.{Way}
-use Rattle.tip5.specs.Judge.{wordRefusal}
 use Rattle.tip5.specs.Moves.{allOf, moved, movedAnswer, roundAnswer, roundOf}
 use Rattle.tip5.specs.Permutation.{nextState}
-use Rattle.tip5.proofs.RefusalLaws.{round-accepted}
 
 pub moved-round : (way : Way) {which : ℕ} (s : List ℕ) → which < 5 → moved way which s ≡ roundOf way which s
 moved-round way s h = simp (lt-ltb _ _ h)
@@ -21,4 +21,4 @@ answer-all way s e = ap (λ (n : ℕ). movedAnswer way n s) e
 
 pub answer-round : (way : Way) {i : ℕ} (s : List ℕ) → i < 5 → movedAnswer way i s ≡ roundAnswer way i s
 answer-round way s h =
-    ap₂ (λ (n : ℕ) (next : List ℕ). nextState n next s) (sym (round-accepted (wordRefusal s) h)) (moved-round way s h)
+    ap₂ (λ (n : ℕ) (next : List ℕ). nextState n next s) (sym (round-judged (wordRefusal s) h)) (moved-round way s h)

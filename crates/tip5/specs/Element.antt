@@ -2,11 +2,11 @@
 use mathlib.Core.List.{List, [], _∷_}
 use Prim.Native.Nat.{ℕ}
 use Rattle.rounds.specs.Field.{valueOf, add, sub, mul, power}
+use Rattle.refusals.specs.Judge.{wordRefusal, unless}
 use Rattle.tip5.specs.declared.b_field_element.BFieldElement.{BFieldElement}
 use Rattle.tip5.specs.declared.b_field_element.ElementAnswer.{ElementAnswer}
 use Rattle.tip5.specs.declared.b_field_element.ValueAnswer.{ValueAnswer}
 use Rattle.tip5.specs.declared.b_field_element.WordAnswer.{WordAnswer}
-use Rattle.tip5.specs.Judge.{wordRefusal, unless}
 
 -- the element of a raw word
 abbrev pub elementOf : ℕ → BFieldElement

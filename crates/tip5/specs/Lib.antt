@@ -1,6 +1,5 @@
 -- What the calls of this crate answer.
 pub mod Element
-pub mod Judge
 pub mod Moves
 pub mod Operations
 pub mod Permutation

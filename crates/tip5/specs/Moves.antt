@@ -5,11 +5,11 @@ use Prim.Native.Nat.{ℕ}
 use lib.Dec.{ltb}
 use Rattle.rounds.specs.Inverse.{invPermuted, invRound}
 use Rattle.rounds.specs.Round.{permuted, round}
+use Rattle.refusals.specs.Judge.{first, wordRefusal, roundRefusal}
 use Rattle.tip5.specs.declared.permutation.StateAnswer.{StateAnswer}
 use Rattle.tip5.specs.declared.permutation.Way.{Way}
 use Rattle.tip5.specs.declared.permutation.Way.the-variants.{Forth, Back}
-use Rattle.tip5.specs.Judge.{first, wordRefusal}
-use Rattle.tip5.specs.Permutation.{nextState, roundRefusal}
+use Rattle.tip5.specs.Permutation.{nextState}
 
 abbrev pub roundOf : Way → (i : ℕ) → List ℕ → List ℕ
 roundOf Forth i s = round i s

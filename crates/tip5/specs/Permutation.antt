@@ -1,17 +1,11 @@
 -- What the calls of the permutation answer: refusal 8 for a round over 4, then 1 for a word of P or more; a refused call
 -- answers the state that went in.
-use mathlib.Core.Bool.{cond}
 use mathlib.Core.List.{List, [], _∷_}
 use Prim.Native.Nat.{ℕ}
-use lib.Dec.{ltb}
 use Rattle.rounds.specs.Inverse.{invPermuted, invRound}
 use Rattle.rounds.specs.Round.{permuted, round}
+use Rattle.refusals.specs.Judge.{first, roundRefusal, unless, wordRefusal}
 use Rattle.tip5.specs.declared.permutation.StateAnswer.{StateAnswer}
-use Rattle.tip5.specs.Judge.{first, unless, wordRefusal}
-
--- refusal 8 for a round that there is not
-abbrev pub roundRefusal : (i : ℕ) → ℕ
-roundRefusal i = cond (ltb i 5) 0 8
 
 -- a next state, or the state that went in where the call is refused
 abbrev pub nextState : (refusal : ℕ) (next state : List ℕ) → StateAnswer

@@ -1,7 +1,6 @@
 // The field of P = 2^64 - 2^32 + 1. An element of value v is held as the raw word v * 2^64 mod P.
 // A raw word and a plain value have types of their own, so that neither can stand for the other.
 use crate::field;
-use crate::refusal;
 ghost use mathlib.Core.Path.{_≡_};
 ghost use Prim.Native.Nat.{_<_};
 ghost use mathlib.Core.List.{[], _∷_};
@@ -53,7 +52,7 @@ fn combined(operation: Operation, a: u64, b: u64) -> u64
 }
 
 impl BFieldElement {
-    pub const P: u64 = 18446744069414584321;
+    pub const P: u64 = rounds::P;
 
     pub const ZERO: BFieldElement = BFieldElement(0);
 
@@ -84,12 +83,12 @@ impl BFieldElement {
         let word = self.0;
         if word < Self::P {
             WordAnswer {
-                refusal: refusal::NONE,
+                refusal: refusals::NONE,
                 word,
             }
         } else {
             WordAnswer {
-                refusal: refusal::BAD_WORD,
+                refusal: refusals::BAD_WORD,
                 word: 0,
             }
         }
@@ -102,12 +101,12 @@ impl BFieldElement {
         let word = self.0;
         if word < Self::P {
             ValueAnswer {
-                refusal: refusal::NONE,
+                refusal: refusals::NONE,
                 value: Value(field::value_of(word)),
             }
         } else {
             ValueAnswer {
-                refusal: refusal::BAD_WORD,
+                refusal: refusals::BAD_WORD,
                 value: Value(0),
             }
         }
@@ -162,7 +161,7 @@ impl ElementAnswer {
         ensures { λ r. ⌜ r ≡ element [] word ⌝ }
     {
         ElementAnswer {
-            refusal: refusal::NONE,
+            refusal: refusals::NONE,
             element: BFieldElement(word),
         }
     }
@@ -171,7 +170,7 @@ impl ElementAnswer {
         ensures { λ r. ⌜ r ≡ element (P ∷ []) 0 ⌝ }
     {
         ElementAnswer {
-            refusal: refusal::BAD_WORD,
+            refusal: refusals::BAD_WORD,
             element: BFieldElement::ZERO,
         }
     }

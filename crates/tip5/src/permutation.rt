@@ -1,8 +1,8 @@
 // The permutation by its fast rounds. Each public call judges its words before anything moves.
 use crate::inverse::inv_rounds_of;
-use crate::judge::judge_words;
 use crate::layers;
-use crate::refusal;
+use refusals::judge::judge_round;
+use refusals::judge::judge_words;
 use rounds::tables;
 ghost use mathlib.Core.Path.{_≡_};
 ghost use Prim.Native.Nat.{_<_, _≤_};
@@ -79,7 +79,7 @@ pub(crate) fn judged(way: Way, which: usize, state: [u64; 16]) -> StateAnswer
     ensures { λ r. ⌜ r ≡ movedAnswer way which state ⌝ }
 {
     let refusal = judge_words(&state);
-    if refusal != refusal::NONE {
+    if refusal != refusals::NONE {
         return StateAnswer { refusal, state };
     }
     StateAnswer {
@@ -92,11 +92,9 @@ pub(crate) fn judged(way: Way, which: usize, state: [u64; 16]) -> StateAnswer
 pub(crate) fn judged_round(way: Way, round: usize, state: [u64; 16]) -> StateAnswer
     ensures { λ r. ⌜ r ≡ roundAnswer way round state ⌝ }
 {
-    if 5 <= round {
-        return StateAnswer {
-            refusal: refusal::NO_SUCH_ROUND,
-            state,
-        };
+    let refusal = judge_round(round);
+    if refusal != refusals::NONE {
+        return StateAnswer { refusal, state };
     }
     judged(way, round, state)
 }

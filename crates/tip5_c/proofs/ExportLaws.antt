@@ -5,10 +5,10 @@ use mathlib.Core.Path.{_≡_, refl, sym, ap, _∙_}
 use Prim.Native.Nat.{ℕ, zero, suc}
 use borrow.Author.Tests.{ne-eqb}
 use lib.ListN.{length}
+use Rattle.refusals.specs.Judge.{unless, wordRefusal}
+use Rattle.refusals.proofs.RefusalLaws.{length-judged}
 use Rattle.tip5.specs.declared.permutation.StateAnswer.{StateAnswer}
-use Rattle.tip5.specs.Judge.{unless, wordRefusal}
 use Rattle.tip5.specs.Permutation.{nextState}
-use Rattle.tip5.proofs.RefusalLaws.{length-judged}
 use Rattle.tip5_c.specs.Bytes.{bytesOf, wordsOf}
 use Rattle.tip5_c.specs.Export.{after, bytesRefusal}
 

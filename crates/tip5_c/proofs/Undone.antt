@@ -11,10 +11,10 @@ use Rattle.rounds.specs.Round.{permuted}
 use Rattle.rounds.specs.Field.{Below}
 use Rattle.rounds.proofs.RoundLaws.{invPermuted-below, invPermuted-length, permuted-below, permuted-length}
 use Rattle.rounds.proofs.RoundTrip.{invPermuted-permuted, permuted-invPermuted}
-use Rattle.tip5.specs.Judge.{wordRefusal}
-use Rattle.tip5.proofs.AnswerLaws.{unless-granted}
-use Rattle.tip5.proofs.JudgeLaws.{accepted-below, below-accepted}
-use Rattle.tip5.proofs.RefusalLaws.{length-judged}
+use Rattle.refusals.specs.Judge.{wordRefusal}
+use Rattle.refusals.proofs.UnlessLaws.{unless-granted}
+use Rattle.refusals.proofs.JudgeLaws.{accepted-below, below-accepted}
+use Rattle.refusals.proofs.RefusalLaws.{length-judged}
 use Rattle.tip5_c.specs.Bytes.{byteAt, bytesOf, wordsOf, wordAt}
 use Rattle.tip5_c.specs.Export.{after, bytesRefusal}
 use Rattle.tip5_c.proofs.RoundTrip.{bytes-of-words-of, words-of-bytes-of}

@@ -2,7 +2,7 @@
 -- every byte as it was.
 use mathlib.Core.List.{List, [], _∷_}
 use Prim.Native.Nat.{ℕ}
-use Rattle.tip5.specs.Judge.{first, lengthRefusal, unless, wordRefusal}
+use Rattle.refusals.specs.Judge.{first, lengthRefusal, unless, wordRefusal}
 use Rattle.tip5_c.specs.Bytes.{bytesOf, wordsOf}
 
 abbrev pub bytesRefusal : List ℕ → ℕ

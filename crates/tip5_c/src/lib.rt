@@ -8,12 +8,11 @@ use crate::bytes::words_of;
 use tip5::inverse::inv_permutation;
 use tip5::permutation::StateAnswer;
 use tip5::permutation::permutation;
-use tip5::refusal;
 ghost use mathlib.Core.Path.{_≡_};
 ghost use lib.ListN.{length};
 ghost use Rattle.rounds.specs.Inverse.{invPermuted};
 ghost use Rattle.rounds.specs.Round.{permuted};
-ghost use Rattle.tip5.specs.Judge.{unless};
+ghost use Rattle.refusals.specs.Judge.{unless};
 ghost use Rattle.tip5_c.specs.Bytes.{bytesOf};
 ghost use Rattle.tip5_c.specs.Export.{after, bytesRefusal};
 
@@ -23,7 +22,7 @@ fn hand_out(state: &mut [u8], answer: StateAnswer) -> u32
     ensures { λ r. ⌜ r ≡ answer .refusal ⌝ }
     ensures { λ r. ⌜ now (state .exit) ≡ unless (answer .refusal) (bytesOf (answer .state)) (now (state .entry)) ⌝ }
 {
-    if answer.refusal != refusal::NONE {
+    if answer.refusal != refusals::NONE {
         return answer.refusal as u32;
     }
     let next = answer.state;
@@ -37,7 +36,7 @@ pub extern "C" fn tip5_permutation(state: &mut [u8]) -> u32
     ensures { λ r. ⌜ now (state .exit) ≡ after permuted (now (state .entry)) ⌝ }
 {
     if state.len() != 128 {
-        return refusal::WRONG_LENGTH as u32;
+        return refusals::WRONG_LENGTH as u32;
     }
     let answer = permutation(words_of(state));
     hand_out(state, answer)
@@ -49,7 +48,7 @@ pub extern "C" fn tip5_inverse_permutation(state: &mut [u8]) -> u32
     ensures { λ r. ⌜ now (state .exit) ≡ after invPermuted (now (state .entry)) ⌝ }
 {
     if state.len() != 128 {
-        return refusal::WRONG_LENGTH as u32;
+        return refusals::WRONG_LENGTH as u32;
     }
     let answer = inv_permutation(words_of(state));
     hand_out(state, answer)

@@ -2,7 +2,7 @@
 -- Assumes nothing.
 use mathlib.Core.List.{[], _∷_}
 use borrow.Author.Needs.{needs}
-use Rattle.tip5.proofs.RefusalLaws.{first-ends, first-stops}
+use Rattle.refusals.proofs.RefusalLaws.{first-ends, first-stops}
 use Rattle.draws.specs.Bound.{boundRefusal}
 use Rattle.draws.proofs.judge_draw.Statement.{statement}
 use Rattle.draws.proofs.judge_draw.Tie as tie

@@ -2,7 +2,7 @@
 -- Assumes nothing.
 use mathlib.Core.Path.{refl, sym, _∙_}
 use borrow.Author.Needs.{needs}
-use Rattle.tip5.proofs.AnswerLaws.{unless-granted, unless-refused}
+use Rattle.refusals.proofs.UnlessLaws.{unless-granted, unless-refused}
 use Rattle.tip5_c.proofs.hand_out.Statement.{statement}
 use Rattle.tip5_c.proofs.hand_out.Tie as tie
 

@@ -6,8 +6,8 @@ use Prim.Native.Nat.{ℕ}
 use lib.ListN.{replicate}
 use borrow.Author.Needs.{needs}
 use Rattle.rounds.specs.Field.{valueOf, Below}
-use Rattle.tip5.specs.Judge.{wordRefusal}
-use Rattle.tip5.proofs.AnswerLaws.{unless-granted}
+use Rattle.refusals.specs.Judge.{wordRefusal}
+use Rattle.refusals.proofs.UnlessLaws.{unless-granted}
 use Rattle.sponge.specs.declared.digest.DigestAnswer.{DigestAnswer}
 use Rattle.sponge.specs.Answers.{hashVarlen}
 use Rattle.sponge.specs.Digest.{digestOf}

@@ -2,7 +2,7 @@
 -- Assumes nothing.
 use mathlib.Core.Path.{sym, _∙_}
 use borrow.Author.Needs.{needs}
-use Rattle.tip5.proofs.AnswerLaws.{unless-granted, unless-refused}
+use Rattle.refusals.proofs.UnlessLaws.{unless-granted, unless-refused}
 use Rattle.lines.specs.Line.{drawLine, refusedLine}
 use Rattle.lines.proofs.LineLaws.{draw-bounded}
 use Rattle.lines.proofs.PutLaws.{front-same}

@@ -2,9 +2,9 @@
 -- Assumes nothing.
 use mathlib.Core.Path.{ap, _∙_}
 use borrow.Author.Needs.{needs}
-use Rattle.tip5.specs.Judge.{wordRefusal}
-use Rattle.tip5.proofs.AnswerLaws.{unless-granted}
-use Rattle.tip5.proofs.RefusalLaws.{first-one}
+use Rattle.refusals.specs.Judge.{wordRefusal}
+use Rattle.refusals.proofs.UnlessLaws.{unless-granted}
+use Rattle.refusals.proofs.RefusalLaws.{first-one}
 use Rattle.sponge.specs.declared.by_value.SpongeAnswer.{SpongeAnswer}
 use Rattle.sponge.specs.declared.Domain.the-variants.{VariableLength}
 use Rattle.sponge.specs.declared.Tip5.{Tip5}

@@ -9,15 +9,15 @@ use Rattle.walks.proofs.Names.{pass1, pass0, free0}
 use Rattle.walks.proofs.Names.{named, erased, NamedLft, agg, u64, RefT, ShrSlice, slice-vals, shr-slice-tells, shr-slice-lawful, Args, Vals, flat, typesAt}
 use Rattle.walks.proofs.Names.{uint-vals, uint-tells, usize, Is, now, namedLft, sliceVal, Bound, alive, onEntry, Triple, cited, Answer, Stated, WalkAnswering}
 use Rattle.walks.proofs.Names.{answered, asks, frees-at, lands-in, lets, local}
-use Rattle.rows.specs.declared.column.Column.{Column}
-use Rattle.rows.specs.Column.{rowCount}
-use Rattle.rows.proofs.ViewLaws.{view-is, view-typed, view-shut}
-use Rattle.rows.proofs.column.Column.Laws.{lowered}
-use Rattle.rows.proofs.column.CountAnswer as R
-use Rattle.rows.proofs.column.CountAnswer.Laws as R′
-use Rattle.rows.proofs.column.Column.num_rows as callee
-use Rattle.rows.proofs.column.Column.num_rows.Symbol as callee-def
-use Rattle.rows.proofs.column.Column.num_rows.Met as callee-thm
+use Rattle.columns.specs.declared.Column.{Column}
+use Rattle.columns.specs.Column.{rowCount}
+use Rattle.columns.proofs.ViewLaws.{view-is, view-typed, view-shut}
+use Rattle.columns.proofs.Column.Laws.{lowered}
+use Rattle.columns.proofs.CountAnswer as R
+use Rattle.columns.proofs.CountAnswer.Laws as R′
+use Rattle.columns.proofs.Column.num_rows as callee
+use Rattle.columns.proofs.Column.num_rows.Symbol as callee-def
+use Rattle.columns.proofs.Column.num_rows.Met as callee-thm
 use Rattle.probe.proofs.tables.column_rows.Key.{name}
 use Rattle.probe.proofs.tables.column_rows as f
 use Rattle.probe.proofs.tables.column_rows.Statement as stated
@@ -78,6 +78,6 @@ column-rows-spec 𝓤 H 𝓜 𝓖 𝓡 =
     (λ κs a. rowCount (now (a .0)) (a .1 .0) (a .1 .1 .0))
     (λ κs a g r e. id⊢ 𝓤 _) (λ fm κs qs a are.
     walk 𝓤 H (𝓖 .A) (givenOf 𝓤 H 𝓜 𝓖) (tables 𝓤 H 𝓜 𝓡 code.env .C) (tables 𝓤 H 𝓜 𝓡 code.env .Λ) fm
-    (cited 𝓤 H (Stated 𝓤 callee.ended counted H (𝓖 .A)) 𝓜 𝓡 code.env callee-def.name callee-def.routine code.calls-rows·column·Column·num-rows
+    (cited 𝓤 H (Stated 𝓤 callee.ended counted H (𝓖 .A)) 𝓜 𝓡 code.env callee-def.name callee-def.routine code.calls-columns·Column·num-rows
     (callee-thm.met 𝓤 H 𝓜 𝓖 𝓡))
     (κs .0) (qs .0) (a .0) (a .1 .0) (a .1 .1 .0) (are .0) (are .1 .0) (are .1 .1 .0))

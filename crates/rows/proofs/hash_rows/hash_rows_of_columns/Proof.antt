@@ -3,7 +3,7 @@
 use mathlib.Core.Path.{ap, sym, _∙_}
 use native.Mathlib.Omega.{arith}
 use borrow.Author.Needs.{needs}
-use Rattle.tip5.proofs.AnswerLaws.{unless-granted, unless-refused}
+use Rattle.refusals.proofs.UnlessLaws.{unless-granted, unless-refused}
 use Rattle.rows.specs.declared.row.Shape.{Shape}
 use Rattle.rows.specs.Rows.{rowDigests, rowsRefusal}
 use Rattle.rows.specs.Table.{digestsIn}

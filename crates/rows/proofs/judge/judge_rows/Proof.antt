@@ -4,8 +4,8 @@ use mathlib.Core.List.{List, [], _∷_}
 use mathlib.Core.Path.{sym, _∙_}
 use Prim.Native.Nat.{ℕ, _*_}
 use borrow.Author.Needs.{needs}
-use Rattle.tip5.specs.Judge.{lengthRefusal, wordRefusal}
-use Rattle.tip5.proofs.RefusalLaws.{first-ends, first-goes-on, first-stops}
+use Rattle.refusals.specs.Judge.{lengthRefusal, wordRefusal}
+use Rattle.refusals.proofs.RefusalLaws.{first-ends, first-goes-on, first-stops}
 use Rattle.rows.specs.declared.row.Shape.{Shape}
 use Rattle.rows.specs.Rows.{digestCount, sizeRefusal}
 use Rattle.rows.proofs.ShapeLaws.{accepted-width}

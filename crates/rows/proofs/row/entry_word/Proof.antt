@@ -5,8 +5,8 @@ use mathlib.Core.Path.{ap, _∙_}
 use Prim.Native.Nat.{ℕ}
 use native.Mathlib.Omega.{arith}
 use borrow.Author.Needs.{needs}
-use Rattle.rows.specs.declared.column.EntryAnswer.{EntryAnswer}
-use Rattle.rows.specs.Column.{entry}
+use Rattle.columns.specs.declared.EntryAnswer.{EntryAnswer}
+use Rattle.columns.specs.Column.{entry}
 use Rattle.rows.proofs.TableLaws.{column-fits, column-part, view-part}
 use Rattle.rows.proofs.row.entry_word.Statement.{statement}
 use Rattle.rows.proofs.row.entry_word.Tie as tie

@@ -7,7 +7,7 @@ use native.Mathlib.Omega.{arith}
 use borrow.Author.Tests.{lt-ltb, le-ltb}
 use Rattle.numbers.specs.Lists.{tab}
 use Rattle.numbers.proofs.Lists.{tab-next, tab-none}
-use Rattle.tip5.specs.Judge.{wordRefusal}
+use Rattle.refusals.specs.Judge.{wordRefusal}
 use Rattle.sheet.specs.Sheet.{value, valueRefusal, valuesOf}
 use Rattle.sheet.proofs.judge.judge_values.Statement.{statement}
 use Rattle.sheet.proofs.judge.judge_values.Tie as tie

@@ -3,7 +3,7 @@
 use mathlib.Core.Path.{sym, _∙_}
 use lib.ListN.{replicate}
 use borrow.Author.Needs.{needs}
-use Rattle.tip5.proofs.AnswerLaws.{answer-granted, answer-refused}
+use Rattle.refusals.proofs.UnlessLaws.{answer-granted, answer-refused}
 use Rattle.sponge.specs.Digest.{digestOfPair}
 use Rattle.sponge.proofs.AcceptedLaws.{accepted-hashPair}
 use Rattle.sponge.proofs.AnswerLaws.{digestAnswer}

@@ -3,8 +3,8 @@
 use mathlib.Core.Path.{sym, _∙_}
 use lib.ListN.{replicate}
 use borrow.Author.Needs.{needs}
-use Rattle.tip5.proofs.JudgeLaws.{accepted-below}
-use Rattle.tip5.proofs.AnswerLaws.{answer-granted, answer-refused}
+use Rattle.refusals.proofs.JudgeLaws.{accepted-below}
+use Rattle.refusals.proofs.UnlessLaws.{answer-granted, answer-refused}
 use Rattle.sponge.specs.Digest.{digestOf}
 use Rattle.sponge.proofs.AnswerLaws.{digestAnswer}
 use Rattle.sponge.proofs.Tip5.hash_varlen.Statement.{statement}

@@ -3,7 +3,7 @@
 use mathlib.Core.Path.{sym, _∙_}
 use lib.ListN.{replicate}
 use borrow.Author.Needs.{needs}
-use Rattle.tip5.proofs.JudgeLaws.{accepted-below}
+use Rattle.refusals.proofs.JudgeLaws.{accepted-below}
 use Rattle.sponge.specs.Sponge.{rate, squeezed}
 use Rattle.sponge.proofs.RecordLaws.{sixteen}
 use Rattle.sponge.proofs.SpongeLaws.{rate-words}

@@ -2,8 +2,8 @@
 -- Assumes nothing.
 use mathlib.Core.List.{[], _∷_}
 use borrow.Author.Needs.{needs}
-use Rattle.tip5.specs.Judge.{wordRefusal}
-use Rattle.tip5.proofs.RefusalLaws.{first-goes-on, first-stops}
+use Rattle.refusals.specs.Judge.{wordRefusal}
+use Rattle.refusals.proofs.RefusalLaws.{first-goes-on, first-stops}
 use Rattle.sponge.proofs.judge.judge_absorb.Statement.{statement}
 use Rattle.sponge.proofs.judge.judge_absorb.Tie as tie
 

@@ -2,7 +2,7 @@
 -- Assumes nothing.
 use mathlib.Core.Path.{sym, _∙_}
 use borrow.Author.Needs.{needs}
-use Rattle.tip5.proofs.AnswerLaws.{answer-granted, answer-refused}
+use Rattle.refusals.proofs.UnlessLaws.{answer-granted, answer-refused}
 use Rattle.sponge.specs.Sponge.{unabsorbed}
 use Rattle.sponge.specs.InPlace.{leaving}
 use Rattle.sponge.proofs.AcceptedLaws.{accepted-absorb}

@@ -1,10 +1,11 @@
 -- `in_place::judged_slice` meets its contract.
 -- Assumes nothing.
 use mathlib.Core.Path.{ap, _∙_}
+use native.Mathlib.Omega.{arith}
 use borrow.Author.Needs.{needs}
+use Rattle.refusals.specs.Judge.{wordRefusal}
+use Rattle.refusals.proofs.RefusalLaws.{length-judged}
 use Rattle.tip5.specs.Moves.{moved, movedAnswer}
-use Rattle.tip5.specs.Judge.{wordRefusal}
-use Rattle.tip5.proofs.RefusalLaws.{length-judged}
 use Rattle.states.proofs.InPlaceLaws.{in-place-moved, in-place-refused, slice-refused}
 use Rattle.states.proofs.in_place.judged_slice.Statement.{statement}
 use Rattle.states.proofs.in_place.judged_slice.Tie as tie
@@ -13,7 +14,7 @@ returns : tie.Need-returns
 returns c =
     let a = c .before .before .args in
     let s = a .state .now in
-    in-place-refused (moved (a .way) (a .which) s) s (slice-refused s (c .if1 .taken))
+    in-place-refused (moved (a .way) (a .which) s) s (slice-refused s (c .if1 .taken)) (λ e. omega arith)
 
 sixteen-requires : tie.Need-sixteen-requires
 sixteen-requires c κs = search needs

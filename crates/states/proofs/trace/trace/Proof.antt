@@ -5,8 +5,8 @@ use mathlib.Core.Path.{sym, _∙_}
 use Prim.Native.Nat.{ℕ}
 use borrow.Author.Needs.{needs}
 use Rattle.numbers.specs.Lists.{tab}
-use Rattle.tip5.proofs.AnswerLaws.{answer-granted, answer-refused}
-use Rattle.tip5.proofs.JudgeLaws.{accepted-below}
+use Rattle.refusals.proofs.UnlessLaws.{answer-granted, answer-refused}
+use Rattle.refusals.proofs.JudgeLaws.{accepted-below}
 use Rattle.states.specs.declared.trace.TraceAnswer.{TraceAnswer}
 use Rattle.states.specs.Trace.{sixStates}
 use Rattle.states.proofs.trace.trace.Statement.{statement}

@@ -2,8 +2,9 @@
 -- Assumes nothing.
 use mathlib.Core.Path.{sym, _∙_}
 use borrow.Author.Needs.{needs}
-use Rattle.tip5.proofs.AnswerLaws.{answer-granted, answer-refused, stateAnswer}
-use Rattle.tip5.proofs.JudgeLaws.{accepted-below}
+use Rattle.refusals.proofs.UnlessLaws.{answer-granted, answer-refused}
+use Rattle.refusals.proofs.JudgeLaws.{accepted-below}
+use Rattle.tip5.proofs.AnswerLaws.{stateAnswer}
 use Rattle.tip5.proofs.permutation.judged.Statement.{statement}
 use Rattle.tip5.proofs.permutation.judged.Tie as tie
 

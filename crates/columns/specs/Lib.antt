@@ -1,0 +1,2 @@
+-- What a view of a column answers.
+pub mod Column

@@ -1,0 +1,2 @@
+-- What is refused, and which refusal comes first.
+pub mod Judge
