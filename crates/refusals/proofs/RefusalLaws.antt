@@ -18,6 +18,10 @@ first-one (suc n) = refl
 pub first-past : {n : ℕ} (ns : List ℕ) → n ≡ 0 → first (n ∷ ns) ≡ first ns
 first-past ns e = ap (λ (k : ℕ). first (k ∷ ns)) e
 
+-- the one that is judged last, where the one before it is none
+pub first-last : {n : ℕ} (r : ℕ) → n ≡ 0 → first (n ∷ r ∷ []) ≡ r
+first-last r e = first-past (r ∷ []) e ∙ first-one r
+
 pub first-none : {n : ℕ} (ns : List ℕ) → n ≡ 0 → first ns ≡ 0 → first (n ∷ ns) ≡ 0
 first-none ns e h = first-past ns e ∙ h
 
@@ -56,10 +60,6 @@ length-refused {n} ws h = rw (ne-eqb (length ws) n h)
 pub accepted-length : (n : ℕ) (ws : List ℕ) → lengthRefusal n ws ≡ 0 → length ws ≡ n
 accepted-length n ws e = eqb-true (length ws) n (passed (eqb (length ws) n) 1 e)
 
--- what is judged after a length that is right
-pub length-judged : {n : ℕ} (ws : List ℕ) (r : ℕ) → length ws ≡ n → first (lengthRefusal n ws ∷ r ∷ []) ≡ r
-length-judged ws r e = first-past (r ∷ []) (length-accepted ws e) ∙ first-one r
-
 -- Rounds
 
 pub round-accepted : {i : ℕ} → i < 5 → roundRefusal i ≡ 0
@@ -70,7 +70,3 @@ round-refused h = rw (le-ltb _ _ h)
 
 pub accepted-round : (i : ℕ) → roundRefusal i ≡ 0 → i < 5
 accepted-round i e = ltb→lt i 5 (rw (passed (ltb i 5) 7 e) tt)
-
--- what is judged after a round that there is
-pub round-judged : {i : ℕ} (r : ℕ) → i < 5 → first (roundRefusal i ∷ r ∷ []) ≡ r
-round-judged r h = first-past (r ∷ []) (round-accepted h) ∙ first-one r

@@ -6,7 +6,7 @@ use Prim.Native.Nat.{ℕ, _<_}
 use borrow.Author.Tests.{ne-eqb}
 use lib.ListN.{length}
 use Rattle.refusals.specs.Judge.{unless}
-use Rattle.refusals.proofs.RefusalLaws.{round-judged}
+use Rattle.refusals.proofs.RefusalLaws.{first-last, round-accepted}
 use Rattle.refusals.proofs.UnlessLaws.{unless-refused}
 use Rattle.tip5.specs.declared.permutation.StateAnswer.{StateAnswer}
 use Rattle.tip5.specs.declared.permutation.Way.{Way}
@@ -35,5 +35,5 @@ in-place-moved next s e put same =
 pub slice-round : (way : Way) {i : ℕ} (s : List ℕ) → i < 5 → {r : ℕ} {after : List ℕ}
     → InPlace (sliceRefusal s) (moved way i s) s r after → InPlace (roundSliceRefusal i s) (roundOf way i s) s r after
 slice-round way s h p =
-    let n = sym (round-judged (sliceRefusal s) h) in
+    let n = sym (first-last (sliceRefusal s) (round-accepted h)) in
     (p .0 ∙ n, p .1 ∙ ap₂ (λ (n : ℕ) (next : List ℕ). unless n next s) n (moved-round way s h))

@@ -10,14 +10,14 @@ use Rattle.rounds.specs.Field.{Below}
 use Rattle.rounds.specs.Round.{round, rounds}
 use Rattle.refusals.specs.Judge.{wordRefusal}
 use Rattle.refusals.proofs.UnlessLaws.{unless-granted}
-use Rattle.refusals.proofs.RefusalLaws.{round-judged}
+use Rattle.refusals.proofs.RefusalLaws.{first-last, round-accepted}
 use Rattle.refusals.proofs.JudgeLaws.{below-accepted}
 use Rattle.tip5.specs.Permutation.{oneRound}
 use Rattle.states.specs.Entering.{entering}
 
 -- the state that a call for one round answers, where it is not refused
 pub round-granted : {i : ℕ} (s : List ℕ) → i < 5 → Below s → oneRound i s .state ≡ round i s
-round-granted s h b = unless-granted (round _ s) s (round-judged (wordRefusal s) h ∙ below-accepted s b)
+round-granted s h b = unless-granted (round _ s) s (first-last (wordRefusal s) (round-accepted h) ∙ below-accepted s b)
 
 -- what `entering` is in its three cases
 

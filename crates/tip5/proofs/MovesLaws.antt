@@ -5,7 +5,7 @@ use mathlib.Core.Path.{_≡_, ap, ap₂, sym}
 use Prim.Native.Nat.{ℕ, _<_}
 use borrow.Author.Tests.{lt-ltb}
 use Rattle.refusals.specs.Judge.{wordRefusal}
-use Rattle.refusals.proofs.RefusalLaws.{round-judged}
+use Rattle.refusals.proofs.RefusalLaws.{first-last, round-accepted}
 use Rattle.tip5.specs.declared.permutation.Way.{Way}
 use Rattle.tip5.specs.Moves.{allOf, moved, movedAnswer, roundAnswer, roundOf}
 use Rattle.tip5.specs.Permutation.{nextState}
@@ -21,4 +21,4 @@ answer-all way s e = ap (λ (n : ℕ). movedAnswer way n s) e
 
 pub answer-round : (way : Way) {i : ℕ} (s : List ℕ) → i < 5 → movedAnswer way i s ≡ roundAnswer way i s
 answer-round way s h =
-    ap₂ (λ (n : ℕ) (next : List ℕ). nextState n next s) (sym (round-judged (wordRefusal s) h)) (moved-round way s h)
+    ap₂ (λ (n : ℕ) (next : List ℕ). nextState n next s) (sym (first-last (wordRefusal s) (round-accepted h))) (moved-round way s h)

@@ -6,7 +6,7 @@ use Prim.Native.Nat.{ℕ, zero, suc}
 use borrow.Author.Tests.{ne-eqb}
 use lib.ListN.{length}
 use Rattle.refusals.specs.Judge.{unless, wordRefusal}
-use Rattle.refusals.proofs.RefusalLaws.{length-judged}
+use Rattle.refusals.proofs.RefusalLaws.{first-last, length-accepted}
 use Rattle.tip5.specs.declared.permutation.StateAnswer.{StateAnswer}
 use Rattle.tip5.specs.Permutation.{nextState}
 use Rattle.tip5_c.specs.Bytes.{bytesOf, wordsOf}
@@ -34,7 +34,7 @@ pub answered : (move : List ℕ → List ℕ) (bytes : List ℕ) {a : StateAnswe
     → Exported move bytes r out
 answered move bytes h e same put =
     let ws = wordsOf bytes in
-    let judged = length-judged bytes (wordRefusal (wordsOf bytes)) h in (
+    let judged = first-last (wordRefusal (wordsOf bytes)) (length-accepted bytes h) in (
       same ∙ ap (λ (x : StateAnswer). x .refusal) e ∙ sym judged,
       put
           ∙ ap (λ (x : StateAnswer). unless (x .refusal) (bytesOf (x .state)) bytes) e

@@ -14,7 +14,7 @@ use Rattle.rounds.proofs.RoundTrip.{invPermuted-permuted, permuted-invPermuted}
 use Rattle.refusals.specs.Judge.{wordRefusal}
 use Rattle.refusals.proofs.UnlessLaws.{unless-granted}
 use Rattle.refusals.proofs.JudgeLaws.{accepted-below, below-accepted}
-use Rattle.refusals.proofs.RefusalLaws.{length-judged}
+use Rattle.refusals.proofs.RefusalLaws.{first-last, length-accepted}
 use Rattle.tip5_c.specs.Bytes.{byteAt, bytesOf, wordsOf, wordAt}
 use Rattle.tip5_c.specs.Export.{after, bytesRefusal}
 use Rattle.tip5_c.proofs.RoundTrip.{bytes-of-words-of, words-of-bytes-of}
@@ -31,7 +31,7 @@ wordsOf-length bytes = length-tab 16 0 (λ k. wordAt bytes k)
 left : (move : List ℕ → List ℕ) (bytes : List ℕ) {w : List ℕ} → length bytes ≡ 128 → wordsOf bytes ≡ w → Below w → after move bytes ≡ bytesOf (move w)
 left move bytes {w} long e low =
     unless-granted (bytesOf (move (wordsOf bytes))) bytes
-    (length-judged bytes (wordRefusal (wordsOf bytes)) long ∙ ap wordRefusal e ∙ below-accepted w low)
+    (first-last (wordRefusal (wordsOf bytes)) (length-accepted bytes long) ∙ ap wordRefusal e ∙ below-accepted w low)
     ∙ ap (λ (s : List ℕ). bytesOf (move s)) e
 
 module _
@@ -44,7 +44,7 @@ module _
     undone : (bytes : List ℕ) → length bytes ≡ 128 → ((i : ℕ) → getD bytes i 0 < 256) → bytesRefusal bytes ≡ 0 → after undo (after move bytes) ≡ bytes
     undone bytes e b granted =
         let w = wordsOf bytes in
-        let h : Below w = accepted-below w (sym (length-judged bytes (wordRefusal (wordsOf bytes)) e) ∙ granted) in
+        let h : Below w = accepted-below w (sym (first-last (wordRefusal (wordsOf bytes)) (length-accepted bytes e)) ∙ granted) in
         ap (after undo) (left move bytes e refl h)
         ∙ left undo (bytesOf (move w)) (bytesOf-length (move w)) (words-of-bytes-of (move w) (long w) (λ k. omega (arith, low w k))) (low w)
         ∙ ap bytesOf (back w (wordsOf-length bytes) h)

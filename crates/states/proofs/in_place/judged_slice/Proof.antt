@@ -4,7 +4,7 @@ use mathlib.Core.Path.{ap, _∙_}
 use native.Mathlib.Omega.{arith}
 use borrow.Author.Needs.{needs}
 use Rattle.refusals.specs.Judge.{wordRefusal}
-use Rattle.refusals.proofs.RefusalLaws.{length-judged}
+use Rattle.refusals.proofs.RefusalLaws.{first-last, length-accepted}
 use Rattle.tip5.specs.Moves.{moved, movedAnswer}
 use Rattle.states.proofs.InPlaceLaws.{in-place-moved, in-place-refused, slice-refused}
 use Rattle.states.proofs.in_place.judged_slice.Statement.{statement}
@@ -34,7 +34,7 @@ returns-2 c =
     let s = a .state .now in
     let at-sixteen = c .before .before .before .before .before .before in
     in-place-moved (moved (a .way) (a .which) s) s (c .before .before .before .before .before .answered .ensures ∙ ap (movedAnswer (a .way) (a .which)) (at-sixteen .sixteen .ensures))
-    (c .before .before .put .ensures) (length-judged s (wordRefusal s) (at-sixteen .before .before .if1 .left))
+    (c .before .before .put .ensures) (first-last (wordRefusal s) (length-accepted s (at-sixteen .before .before .if1 .left)))
 
 pub judged-slice-spec : {M : Type 1} → statement M
 judged-slice-spec =
