@@ -4,14 +4,13 @@ use mathlib.Core.List.{List, _∷_}
 use mathlib.Core.Path.{_≡_}
 use Prim.Native.Nat.{ℕ, _<_}
 use native.Mathlib.Omega.{arith}
-use lib.ListN.{getD}
+use lib.ListN.{getD, replicate}
 use Rattle.numbers.specs.Circulant.{rowSum}
-use Rattle.numbers.specs.Lists.{tab}
 use Rattle.numbers.proofs.Table.{below-fact}
 
 -- one in word 0, zeros elsewhere
 abbrev pub firstWord : List ℕ
-firstWord = 1 ∷ tab 15 0 (λ k. 0)
+firstWord = 1 ∷ replicate 15 0
 
 pub rowSum-firstWord : (column : List ℕ) (r : ℕ) → r < 16 → rowSum column firstWord r ≡ getD column r 0
 unfolding rowSum

@@ -1,7 +1,7 @@
 -- The worked cases that are marked to be proved, and the raw words of five values: what each definition gives beside what was worked by hand.
 use mathlib.Core.List.{List, [], _∷_, map}
 use Prim.Native.Nat.{ℕ}
-use Rattle.numbers.specs.Lists.{tab}
+use lib.ListN.{replicate}
 use Rattle.numbers.specs.Modulus.{P}
 use Rattle.matrix.specs.Column.{mdsColumn}
 use Rattle.rounds.specs.Field.{add, rawOf}
@@ -16,7 +16,7 @@ pub record Case : Type 0 where
 
 -- sixteen times the same word
 abbrev sixteen : ℕ → List ℕ
-sixteen w = tab 16 0 (λ k. w)
+sixteen w = replicate 16 w
 
 unfoldable pub table : List Case
 table =
@@ -29,7 +29,7 @@ table =
     -- the matrix on sixteen raw 1s, on sixteen raw P - 1, and on 1 in word 0 alone
     ∷ record { given = circulant mdsColumn (sixteen 1); worked = sixteen 524757 }
     ∷ record { given = circulant mdsColumn (sixteen 18446744069414584320); worked = sixteen 18446744069414059564 }
-    ∷ record { given = circulant mdsColumn (1 ∷ tab 15 0 (λ k. 0)); worked = mdsColumn }
+    ∷ record { given = circulant mdsColumn (1 ∷ replicate 15 0); worked = mdsColumn }
     -- a row sum of P reduces to raw P, and adding a constant to that gives the constant
     ∷ record { given = reduced P ∷ []; worked = P ∷ [] }
     ∷ record { given = map (add (reduced P)) rawConstants; worked = rawConstants }
