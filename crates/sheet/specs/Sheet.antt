@@ -36,17 +36,13 @@ wordsOf n sheet = tab n 0 (λ i. rawOf (value sheet i))
 abbrev pub shortRefusal : (sheet : List ℕ) → ℕ
 shortRefusal sheet = cond (ltb (length sheet) 6) 4 0
 
--- a digest sheet does not use its log2, index and allowance fields, and whatever stands there is accepted
-abbrev pub unusedRefusal : Header → ℕ
-unusedRefusal h = 0
-
--- refusal 5 for a header that no sheet has, clause by clause
+-- refusal 5 for a header that no sheet has, clause by clause; the log2, index and allowance fields, which a digest sheet
+-- does not use, are not judged
 abbrev pub fieldRefusals : Header → List ℕ
 fieldRefusals h =
     cond (eqb (h .version) 1) 0 5
     ∷ cond (ltb (h .job) 2) 0 5
     ∷ cond (leb (h .elements) elementLimit) 0 5
-    ∷ unusedRefusal h
     ∷ []
 
 -- the first of them
