@@ -1,10 +1,14 @@
--- The matrices of the parts that the product is made of. Modulo 2^64, 2^64 - 1 stands for -1.
+-- The matrices of the parts that the product is made of.
 use mathlib.Core.List.{List}
 use Prim.Native.Nat.{ℕ, _+_, _-_, _*_, _^_}
 use Rattle.numbers.specs.Circulant.{entry}
 use Rattle.numbers.specs.Lists.{tab}
 use Rattle.numbers.specs.Linear.{unit, _⊕_, _⊛_, rows}
 use Rattle.matrix.specs.Column.{mdsColumn}
+
+-- -1, modulo 2^64
+abbrev pub minusOne : ℕ
+minusOne = 2 ^ 64 - 1
 
 -- each word and n times the word eight places on, 16 words to 8
 abbrev pub foldMatrix : ℕ → List (List ℕ)
@@ -20,7 +24,7 @@ sumsMatrix = foldMatrix 1
 
 -- the differences of words eight places apart
 abbrev pub differencesMatrix : List (List ℕ)
-differencesMatrix = foldMatrix (2 ^ 64 - 1)
+differencesMatrix = foldMatrix minusOne
 
 -- eight sums to the eight words of the cyclic half
 abbrev pub cyclicMatrix : List (List ℕ)
@@ -28,8 +32,8 @@ cyclicMatrix = rows 8 0 (λ r. foldedRow 1 r)
 
 -- eight differences to words 0, 2, 4, 6 of the negacyclic half
 abbrev pub evenMatrix : List (List ℕ)
-evenMatrix = rows 4 0 (λ k. foldedRow (2 ^ 64 - 1) (2 * k))
+evenMatrix = rows 4 0 (λ k. foldedRow minusOne (2 * k))
 
 -- eight differences to words 1, 3, 5, 7 of the negacyclic half
 abbrev pub oddMatrix : List (List ℕ)
-oddMatrix = rows 4 0 (λ k. foldedRow (2 ^ 64 - 1) (2 * k + 1))
+oddMatrix = rows 4 0 (λ k. foldedRow minusOne (2 * k + 1))
