@@ -1,3 +1,5 @@
 // What a sheet gives: a digest, a draw or a refusal, as one line.
+#![tactic(auto)]
+
 mod answer;
 pub mod sheet_line;

@@ -1,20 +1,22 @@
 // A column of a slice of words: every stride-th word from an offset on. `row_count` and `entry` do the
 // work on plain parameters. `Column` holds the three together, as the Rust has it: the functions over
 // it take it apart, and their proofs are walks by hand. Other code calls `column_entry`.
+#![tactic(auto)]
+
 ghost use Rattle.std.specs.Prelude.{◌≡◌};
 ghost use Rattle.columns.specs.Column.{entry, row_count};
 
 use rounds::P;
 
 // A refusal or 0, and the number of rows, 0 where the view is refused.
-#[derive(Drop)]
+#[derive(Clone, Copy)]
 pub struct CountAnswer {
     pub refusal: u8,
     pub count: usize,
 }
 
 // A refusal or 0, and a word, 0 where the call is refused.
-#[derive(Drop)]
+#[derive(Clone, Copy)]
 pub struct EntryAnswer {
     pub refusal: u8,
     pub word: u64,
@@ -61,7 +63,7 @@ pub fn entry(words: &[u64], stride: usize, offset: usize, row: usize) -> EntryAn
 }
 
 // A view of one column: row r is at offset + r * stride.
-#[derive(Drop)]
+#[derive(Clone, Copy)]
 pub struct Column<'a> {
     pub elements: &'a [u64],
     pub stride: usize,

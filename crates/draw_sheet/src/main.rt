@@ -1,6 +1,8 @@
 // Reads one sheet from standard input to its end and writes one line. A failed or closed input counts
 // as its end. An input that is longer than the buffer is longer than any sheet, so it is judged rightly
 // by what fits.
+#![tactic(auto)]
+
 fn main() {
     let mut sheet = io::large_buffer();
     let read = io::read_full(0, &mut sheet);

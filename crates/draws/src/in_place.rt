@@ -6,7 +6,7 @@ ghost use Rattle.draws.specs.InPlace.{leaving_counts};
 use sponge::Tip5;
 
 // A refusal or 0, how many indices were found and how many squeezes were made: zeros where it is refused 1 or 3.
-#[derive(Drop)]
+#[derive(Clone, Copy)]
 pub struct CountsAnswer {
     pub refusal: u8,
     pub found: usize,

@@ -1,4 +1,6 @@
 // Draws: as many indices as a lent slice holds, out of a sponge's squeezed tens.
+#![tactic(auto)]
+
 mod bound;
 pub mod in_place;
 mod index;
@@ -17,7 +19,7 @@ use sponge::by_value::squeeze;
 
 // A refusal or 0, how many indices were found, how many squeezes were made, and the next sponge. Refused 1 or 3 it holds
 // zeros and the sponge that went in; refused 6 it holds both counts and the sponge after the whole allowance.
-#[derive(Drop)]
+#[derive(Clone, Copy)]
 pub struct DrawAnswer {
     pub refusal: u8,
     pub found: usize,

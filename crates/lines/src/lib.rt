@@ -1,5 +1,7 @@
 // The lines that the program writes, each at the front of a lent array. What stands in the array
 // after the line is left as it was.
+#![tactic(auto)]
+
 mod put;
 
 ghost use Rattle.std.specs.Prelude.{◌≡◌, ◌++◌, ◌+◌, ◌*◌, ◌<◌, ◌≤◌, length, get_or};

@@ -7,7 +7,7 @@ ghost use Rattle.matrix.specs.Parts.{sums_matrix, differences_matrix};
 use crate::wrapping::{add, sub};
 
 // What the cyclic half takes, and what the negacyclic half takes.
-#[derive(Drop)]
+#[derive(Clone, Copy)]
 pub(crate) struct Halves {
     pub(crate) sums: [u64; 8],
     pub(crate) differences: [u64; 8],

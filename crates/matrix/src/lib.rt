@@ -1,5 +1,7 @@
 // The circulant matrix of the permutation, times 16, in wrapping words: a cyclic product of length
 // sixteen that is cut into smaller ones. Node names are those of the Rust function.
+#![tactic(auto)]
+
 mod cyclic;
 mod halves;
 mod negacyclic;

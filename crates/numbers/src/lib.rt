@@ -1,1 +1,2 @@
 // Numbers alone, no code: the definitions stand in specs/, their laws in proofs/.
+#![tactic(auto)]

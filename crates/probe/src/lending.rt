@@ -36,10 +36,11 @@ pub(crate) fn lent_to_squeeze(sponge: Tip5) -> SqueezeAnswer
 {
     let mut held = sponge;
     let answer = held.squeeze();
+    let ten = answer.ten;
     SqueezeAnswer {
         refusal: answer.refusal,
         sponge: held,
-        ten: answer.ten,
+        ten,
     }
 }
 

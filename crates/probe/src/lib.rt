@@ -1,6 +1,8 @@
 // The calls that the Rust side compares and measures, as C functions on numbers, slices and arrays:
 // each a thin wrapper that promises, in the same words, what the wrapped call promises. It is there
 // for tests and benchmarks and is no part of the product.
+#![tactic(auto)]
+
 pub mod drawing;
 pub mod field;
 pub mod hashing;

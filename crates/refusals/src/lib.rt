@@ -1,4 +1,6 @@
 // The refusals: their numbers, as every call answers them, and the judging that comes before anything moves.
+#![tactic(auto)]
+
 pub mod judge;
 mod stated;
 

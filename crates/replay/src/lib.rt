@@ -1,4 +1,6 @@
 // What the replay programs share. No part of the product.
+#![tactic(auto)]
+
 ghost use Rattle.std.specs.Prelude.{◌≡◌, get_or};
 ghost use Rattle.numbers.specs.Lists.{tab};
 ghost use Rattle.replay.specs.Difference.{difference};

@@ -1,10 +1,12 @@
 // Runs stored answers of the Rust through the field calls and writes how many differ.
+#![tactic(auto)]
+
 mod vectors;
 
 use tip5::b_field_element::{BFieldElement, ElementAnswer, Value};
 
 // A call's refusal, 0 for none, and its answer.
-#[derive(Drop)]
+#[derive(Clone, Copy)]
 struct Given {
     refusal: u8,
     word: u64,

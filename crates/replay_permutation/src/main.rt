@@ -1,5 +1,7 @@
 // Runs stored traces of the Rust through the trace, the permutation and each round, forth and back,
 // by value and in place, and writes how many answers differ.
+#![tactic(auto)]
+
 mod vectors;
 
 use replay::{differ, part, sixteen};

@@ -1,5 +1,7 @@
 // Runs stored answers of the Rust through the digests, the sponge and the steps back, and the two
 // published vectors, and writes how many answers differ.
+#![tactic(auto)]
+
 mod published;
 mod stored;
 mod vectors;

@@ -25,7 +25,7 @@ fn put_digest(digests: &mut [u64], row: usize, sponge: Tip5)
 // The digests of the rows in turn.
 fn put_digests(words: &[u64], shape: Shape, count: usize, digests: &mut [u64])
     requires table { Table words.now shape }
-    requires count_le_rows { (count ≤ shape.rows) × (length digests.old ≡ 5 * count) }
+    requires room { (count ≤ shape.rows) × (length digests.old ≡ 5 * count) }
     ensures { digests.new ≡ digests_in words.now shape count }
 {
     let mut row = 0;

@@ -1,4 +1,6 @@
 // Rows of columns: the digests of all rows.
+#![tactic(auto)]
+
 pub mod hash_rows;
 mod judge;
 mod row;

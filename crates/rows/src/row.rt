@@ -14,7 +14,7 @@ use sponge::{RATE, Tip5};
 use tip5::b_field_element::BFieldElement;
 
 // How the words of a table lie: columns one after another, each of `rows` entries of `width` words.
-#[derive(Drop)]
+#[derive(Clone, Copy)]
 pub(crate) struct Shape {
     pub(crate) columns: usize,
     pub(crate) rows: usize,
@@ -24,7 +24,7 @@ pub(crate) struct Shape {
 // A part of a column's entry, by a view of that column.
 fn entry_word(words: &[u64], shape: Shape, column: usize, row: usize, part: usize) -> u64
     requires table { Table words.now shape }
-    requires column_lt_columns { (column < shape.columns) × (row < shape.rows) × (part < shape.width) }
+    requires in_table { (column < shape.columns) × (row < shape.rows) × (part < shape.width) }
     ensures { result ≡ get_or (entry_in words.now shape column row) part 0 }
 {
     let size = shape.rows * shape.width;
@@ -37,7 +37,7 @@ fn entry_word(words: &[u64], shape: Shape, column: usize, row: usize, part: usiz
 // n words of a row from word `at` on, then zeros. Word k is part k % width of column k / width.
 fn row_part(words: &[u64], shape: Shape, row: usize, at: usize, n: usize) -> [u64; 10]
     requires table { Table words.now shape }
-    requires row_lt_rows { (row < shape.rows) × (n ≤ 10) × (at + n ≤ shape.columns * shape.width) }
+    requires in_table { (row < shape.rows) × (n ≤ 10) × (at + n ≤ shape.columns * shape.width) }
     ensures { result ≡ paste (replicate 10 0) 0 (drop at (row_in words.now shape row)) n }
 {
     let mut ten = [0; 10];
@@ -55,7 +55,7 @@ fn row_part(words: &[u64], shape: Shape, row: usize, at: usize, n: usize) -> [u6
 // The rest of a row, at most nine words, followed by ONE and zeros.
 fn last_ten(words: &[u64], shape: Shape, row: usize, at: usize) -> [u64; 10]
     requires table { Table words.now shape }
-    requires row_lt_rows { (row < shape.rows) × (at ≤ shape.columns * shape.width) × (shape.columns * shape.width < at + 10) }
+    requires in_table { (row < shape.rows) × (at ≤ shape.columns * shape.width) × (shape.columns * shape.width < at + 10) }
     ensures { result ≡ last_ten (drop at (row_in words.now shape row)) }
 {
     let rest = shape.columns * shape.width - at;
@@ -77,7 +77,7 @@ fn absorbed(sponge: Tip5, ten: [u64; 10]) -> Tip5
 // The sponge that absorbed a padded row.
 pub(crate) fn row_sponge(words: &[u64], shape: Shape, row: usize) -> Tip5
     requires table { Table words.now shape }
-    requires row_lt_rows { row < shape.rows }
+    requires in_table { row < shape.rows }
     ensures { result ≡ run (padded_steps (row_in words.now shape row)) (Sponge.start VariableLength) }
 {
     let length = shape.columns * shape.width;

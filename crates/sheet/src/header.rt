@@ -6,7 +6,7 @@ ghost use Rattle.sheet.specs.Sheet.{read_header, refused_sheet};
 use crate::bits::field;
 
 // The six fields, in their order: `log2` is that of the bound.
-#[derive(Drop)]
+#[derive(Clone, Copy)]
 pub struct Header {
     pub version: u8,
     pub job: u8,
@@ -17,7 +17,7 @@ pub struct Header {
 }
 
 // A refusal or 0, and a header, whose fields are all 0 where the sheet is refused.
-#[derive(Drop)]
+#[derive(Clone, Copy)]
 pub struct HeaderAnswer {
     pub refusal: u8,
     pub header: Header,

@@ -1,4 +1,6 @@
 // The draw sheet: its header, its judging and its elements.
+#![tactic(auto)]
+
 mod bits;
 mod elements;
 pub mod header;

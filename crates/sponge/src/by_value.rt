@@ -14,14 +14,14 @@ use crate::{RATE, Tip5};
 use tip5::permutation::permutation;
 
 // A refusal or 0, and the next sponge, or the sponge that went in where the call is refused.
-#[derive(Drop)]
+#[derive(Clone, Copy)]
 pub struct SpongeAnswer {
     pub refusal: u8,
     pub sponge: Tip5,
 }
 
 // The same and ten words, which are zeros where the call is refused.
-#[derive(Drop)]
+#[derive(Clone, Copy)]
 pub struct SqueezeAnswer {
     pub refusal: u8,
     pub sponge: Tip5,
@@ -59,7 +59,7 @@ pub(crate) fn overwrite(sponge: Tip5, ten: &[u64]) -> Tip5
 
 // The sponge after an absorb of ten words.
 pub(crate) fn absorbed(sponge: Tip5, ten: &[u64]) -> Tip5
-    requires ten_len { length ten.now ≡ 10 }
+    requires ten_length { length ten.now ≡ 10 }
     requires below { Below sponge.state × Below ten.now }
     ensures { result ≡ Sponge.absorbed ten.now sponge }
 {

@@ -12,7 +12,7 @@ use crate::{Domain, Tip5};
 use refusals::judge::judge_words;
 
 // A refusal or 0, and a digest, which is five zeros where the call is refused.
-#[derive(Drop)]
+#[derive(Clone, Copy)]
 pub struct DigestAnswer {
     pub refusal: u8,
     pub digest: [u64; 5],
@@ -47,7 +47,7 @@ fn joined(left: &[u64], right: &[u64]) -> [u64; 10]
 }
 
 fn digest_of_pair(left: &[u64], right: &[u64]) -> [u64; 5]
-    requires left_len { (length left.now ≡ 5) × (length right.now ≡ 5) }
+    requires lengths { (length left.now ≡ 5) × (length right.now ≡ 5) }
     requires below { Below left.now × Below right.now }
     ensures { result ≡ digest_of_pair left.now right.now }
 {

@@ -8,7 +8,7 @@ use crate::step_back::StepKind;
 use crate::{Tip5, by_value, step_back};
 
 // A refusal or 0, and ten words, which are zeros where the call is refused.
-#[derive(Drop)]
+#[derive(Clone, Copy)]
 pub struct TenAnswer {
     pub refusal: u8,
     pub ten: [u64; 10],
@@ -45,9 +45,10 @@ impl Tip5 {
         let answer = by_value::squeeze(before);
         let after = answer.sponge;
         *self = after;
+        let ten = answer.ten;
         TenAnswer {
             refusal: answer.refusal,
-            ten: answer.ten,
+            ten,
         }
     }
 

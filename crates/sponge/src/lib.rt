@@ -1,4 +1,6 @@
 // The sponge over Tip5's permutation: absorb, squeeze, padding, digests and one step back, by value and in place.
+#![tactic(auto)]
+
 pub mod by_value;
 pub mod digest;
 pub mod in_place;
@@ -20,7 +22,7 @@ pub const RATE: usize = 10;
 pub const DIGEST_LENGTH: usize = 5;
 
 // The two modes of hashing, kept apart by their starts.
-#[derive(Drop)]
+#[derive(Clone, Copy)]
 pub enum Domain {
     // Inputs of any length.
     VariableLength,
@@ -29,7 +31,7 @@ pub enum Domain {
 }
 
 // A sponge: sixteen raw words. Any u64 may stand here: each call judges them.
-#[derive(Drop)]
+#[derive(Clone, Copy)]
 pub struct Tip5 {
     pub state: [u64; 16],
 }

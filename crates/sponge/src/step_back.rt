@@ -11,7 +11,7 @@ use crate::judge::{judge_absorb, judge_places};
 use tip5::inverse::inv_permutation;
 
 // The two kinds of steps: there is no third.
-#[derive(Drop)]
+#[derive(Clone, Copy)]
 pub enum StepKind {
     Squeeze,
     Absorb,

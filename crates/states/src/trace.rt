@@ -9,7 +9,7 @@ use refusals::judge::judge_words;
 use tip5::permutation::round;
 
 // A refusal or 0, and six states one after another, all zero where the call is refused.
-#[derive(Drop)]
+#[derive(Clone, Copy)]
 pub struct TraceAnswer {
     pub refusal: u8,
     pub states: [u64; 96],

@@ -9,36 +9,36 @@ ghost use Rattle.tip5.specs.Operations.{combination};
 use crate::field;
 
 // A plain value. Any u64 may stand here.
-#[derive(Drop)]
+#[derive(Clone, Copy)]
 pub struct Value(pub u64);
 
 // An element by its raw word. Any u64 may stand here too: each call judges it.
-#[derive(Drop)]
+#[derive(Clone, Copy)]
 pub struct BFieldElement(pub u64);
 
 // A refusal or 0, and an element, which is 0 where the call is refused.
-#[derive(Drop)]
+#[derive(Clone, Copy)]
 pub struct ElementAnswer {
     pub refusal: u8,
     pub element: BFieldElement,
 }
 
 // A refusal or 0, and a plain value, which is 0 where the call is refused.
-#[derive(Drop)]
+#[derive(Clone, Copy)]
 pub struct ValueAnswer {
     pub refusal: u8,
     pub value: Value,
 }
 
 // A refusal or 0, and a raw word, which is 0 where the call is refused.
-#[derive(Drop)]
+#[derive(Clone, Copy)]
 pub struct WordAnswer {
     pub refusal: u8,
     pub word: u64,
 }
 
 // What is done to two raw words.
-#[derive(Drop)]
+#[derive(Clone, Copy)]
 pub(crate) enum Operation {
     Sum,
     Difference,

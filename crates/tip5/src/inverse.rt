@@ -19,7 +19,7 @@ fn inv_round_with(
     round: usize,
     state: [u64; 16],
 ) -> [u64; 16]
-    requires table_value { (table.now ≡ inv_lookup_table) × (column.now ≡ raw_inv_column) × (constants.now ≡ raw_constants) }
+    requires tables { (table.now ≡ inv_lookup_table) × (column.now ≡ raw_inv_column) × (constants.now ≡ raw_constants) }
     requires round_bound { (round < 5) × Below state }
     ensures { result ≡ inv_round round state }
 {
@@ -34,7 +34,7 @@ fn five_inv_rounds_with(
     constants: &[u64; 80],
     state: [u64; 16],
 ) -> [u64; 16]
-    requires table_value { (table.now ≡ inv_lookup_table) × (column.now ≡ raw_inv_column) × (constants.now ≡ raw_constants) }
+    requires tables { (table.now ≡ inv_lookup_table) × (column.now ≡ raw_inv_column) × (constants.now ≡ raw_constants) }
     requires below { Below state }
     ensures { result ≡ inv_permuted state }
 {

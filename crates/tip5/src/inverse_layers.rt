@@ -16,7 +16,7 @@ use crate::{field, layers};
 
 // The round's constants subtracted.
 pub(crate) fn subtract_constants(constants: &[u64; 80], round: usize, words: [u64; 16]) -> [u64; 16]
-    requires constants_value { (constants.now ≡ raw_constants) × (round < 5) }
+    requires constants_table { (constants.now ≡ raw_constants) × (round < 5) }
     requires below { Below words }
     ensures { result ≡ subtract_constants round words }
 {
@@ -31,7 +31,7 @@ pub(crate) fn subtract_constants(constants: &[u64; 80], round: usize, words: [u6
 
 // Row r of the inverse matrix times the words.
 fn inv_row(column: &[u64; 16], words: [u64; 16], r: usize) -> u64
-    requires column_value { (column.now ≡ raw_inv_column) × (r < 16) }
+    requires column_table { (column.now ≡ raw_inv_column) × (r < 16) }
     requires below { Below words }
     ensures { result ≡ row_sum inv_mds_column words r % P }
 {
@@ -45,7 +45,7 @@ fn inv_row(column: &[u64; 16], words: [u64; 16], r: usize) -> u64
 }
 
 pub(crate) fn inv_mds_matrix_mul(column: &[u64; 16], words: [u64; 16]) -> [u64; 16]
-    requires column_value { column.now ≡ raw_inv_column }
+    requires column_table { column.now ≡ raw_inv_column }
     requires below { Below words }
     ensures { result ≡ circulant inv_mds_column words }
 {
@@ -68,8 +68,8 @@ fn four_of(s: [u64; 16], i: usize) -> [u64; 4]
 
 // Words i to i + 3 by roots, put behind the words before i, which are done.
 fn put_roots(out: [u64; 16], s: [u64; 16], i: usize) -> [u64; 16]
-    requires le_i { (4 ≤ i) × (i ≤ 12) × Below s }
-    requires filled { Filled 16 (λ k. inv_sbox k (get_or s k 0)) i out }
+    requires place { (4 ≤ i) × (i ≤ 12) × Below s }
+    requires done { Filled 16 (λ k. inv_sbox k (get_or s k 0)) i out }
     ensures { Filled 16 (λ k. inv_sbox k (get_or s k 0)) (i + 4) result }
 {
     let roots = seventh_roots(four_of(s, i));

@@ -100,7 +100,7 @@ fn reduced_word(lo: u64, hi: u64) -> u64
 }
 
 // The lower and the upper 32 bits of each word.
-#[derive(Drop)]
+#[derive(Clone, Copy)]
 struct Halves {
     lower: [u64; 16],
     upper: [u64; 16],

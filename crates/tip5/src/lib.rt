@@ -1,4 +1,6 @@
 // The hash function Tip5: its field, its permutation and the way back.
+#![tactic(auto)]
+
 pub mod b_field_element;
 mod field;
 pub mod inverse;

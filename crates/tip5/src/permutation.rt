@@ -15,21 +15,21 @@ use refusals::judge::{judge_round, judge_words};
 use rounds::tables;
 
 // A refusal or 0, and the next state, or the state that went in where the call is refused.
-#[derive(Drop)]
+#[derive(Clone, Copy)]
 pub struct StateAnswer {
     pub refusal: u8,
     pub state: [u64; 16],
 }
 
 // The permutation and its rounds, or the way back.
-#[derive(Drop)]
+#[derive(Clone, Copy)]
 pub enum Way {
     Forth,
     Back,
 }
 
 fn round_with(table: &[u8; 256], constants: &[u64; 80], round: usize, state: [u64; 16]) -> [u64; 16]
-    requires table_value { (table.now ≡ lookup_table) × (constants.now ≡ raw_constants) }
+    requires tables { (table.now ≡ lookup_table) × (constants.now ≡ raw_constants) }
     requires round_bound { (round < 5) × Below state }
     ensures { result ≡ Round.round round state }
 {
@@ -39,7 +39,7 @@ fn round_with(table: &[u8; 256], constants: &[u64; 80], round: usize, state: [u6
 }
 
 fn five_rounds_with(table: &[u8; 256], constants: &[u64; 80], state: [u64; 16]) -> [u64; 16]
-    requires table_value { (table.now ≡ lookup_table) × (constants.now ≡ raw_constants) }
+    requires tables { (table.now ≡ lookup_table) × (constants.now ≡ raw_constants) }
     requires below { Below state }
     ensures { result ≡ permuted state }
 {

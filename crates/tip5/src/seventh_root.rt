@@ -10,8 +10,8 @@ use crate::field;
 
 // The base squared `times` times, then multiplied by the tail.
 fn power_accumulator(base: [u64; 4], times: u64, tail: [u64; 4]) -> [u64; 4]
-    requires below { Below base }
-    requires below_2 { Below tail }
+    requires base_below { Below base }
+    requires tail_below { Below tail }
     ensures { result ≡ tab 4 0 (λ k. mul (power (get_or base k 0) (2 ^ times)) (get_or tail k 0)) }
 {
     let mut w = base[0];

@@ -1,6 +1,8 @@
 // The permutation and its inverse as C functions on 128 bytes: sixteen raw words, each lowest byte
 // first. They answer 0 with the bytes changed in place, or a refusal with every byte as it was.
 // include/tip5.h says the same to C.
+#![tactic(auto)]
+
 mod bytes;
 
 ghost use Rattle.std.specs.Prelude.{◌≡◌, length};

@@ -1,1 +1,2 @@
 // No code: what the proofs by hand of the crates above share.
+#![tactic(auto)]

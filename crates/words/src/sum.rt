@@ -2,7 +2,7 @@
 ghost use Rattle.std.specs.Prelude.{◌≡◌, ◌+◌, ◌-◌, ◌/◌, ◌%◌, ◌^◌};
 
 // A word, and the carry or borrow beside it: 0 or 1.
-#[derive(Drop)]
+#[derive(Clone, Copy)]
 pub struct Overflowing {
     pub word: u64,
     pub over: u64,
