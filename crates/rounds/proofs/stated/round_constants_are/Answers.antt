@@ -4,12 +4,8 @@ use mathlib.Core.Path.{refl}
 use Rattle.rounds.specs.Constants.{round_constants}
 use Rattle.rounds.specs.Field.{raw_of}
 use Rattle.rounds.specs.Tables.{raw_constants}
-use Rattle.rounds.proofs.stated.round_constants_are.Statement.{statement}
-use Rattle.rounds.proofs.stated.round_constants_are.Tie as tie
+use Rattle.rounds.proofs.stated.round_constants_are.Goals as goal
 
-returns : tie.Need-returns
+pub returns : goal.returns
 unfolding raw_constants raw_of round_constants
 returns c = refl
-
-pub round-constants-are-spec : {M : Type 1} → statement M
-round-constants-are-spec = tie.close (tie.spec returns)

@@ -4,12 +4,8 @@ use mathlib.Core.Path.{refl}
 use Rattle.rounds.specs.Constants.{inv_mds_column}
 use Rattle.rounds.specs.Field.{raw_of}
 use Rattle.rounds.specs.InverseTables.{raw_inv_column}
-use Rattle.rounds.proofs.stated.inv_column_is.Statement.{statement}
-use Rattle.rounds.proofs.stated.inv_column_is.Tie as tie
+use Rattle.rounds.proofs.stated.inv_column_is.Goals as goal
 
-returns : tie.Need-returns
+pub returns : goal.returns
 unfolding raw_inv_column raw_of inv_mds_column
 returns c = refl
-
-pub inv-column-is-spec : {M : Type 1} → statement M
-inv-column-is-spec = tie.close (tie.spec returns)
