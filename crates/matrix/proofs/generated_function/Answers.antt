@@ -1,9 +1,8 @@
 -- `matrix::generated_function` meets its contract: the matrices of the parts, multiplied, are 16 times the circulant, row by row.
 -- Assumes nothing.
-use Rattle.std.proofs.Common.{[], ◌∷◌, refl, lit<}
+use Rattle.std.proofs.Common.{[], ◌∷◌, refl}
 use Rattle.numbers.proofs.Linear.{form-through, forms-times, form-plus as add, form-minus as sub}
 use Rattle.matrix.specs.Parts.{sums_matrix, differences_matrix, cyclic_matrix, even_matrix, odd_matrix}
-use Rattle.matrix.proofs.Calls.{free}
 use Rattle.matrix.proofs.Whole.{whole-row}
 use Rattle.matrix.proofs.generated_function.Goals as goal
 

@@ -1,9 +1,8 @@
 -- `matrix::halves::sums_and_differences` meets its contract: a linear form for each word, against its row of the matrix.
 -- Assumes nothing.
-use Rattle.std.proofs.Common.{◌^◌, [], ◌∷◌, get_or, refl, lit<}
+use Rattle.std.proofs.Common.{◌^◌, [], ◌∷◌, get_or, refl}
 use Rattle.numbers.proofs.Linear.{form-input, form-word, form-plus as add, form-minus as sub}
 use Rattle.matrix.specs.Parts.{sums_matrix, differences_matrix}
-use Rattle.matrix.proofs.Calls.{free}
 use Rattle.matrix.proofs.halves.sums_and_differences.Goals as goal
 
 pub returns : goal.returns

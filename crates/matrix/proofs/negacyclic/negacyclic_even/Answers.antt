@@ -1,10 +1,9 @@
 -- `matrix::negacyclic::negacyclic_even` meets its contract: a linear form for each node, line by line as
 -- the source has them, and then each word against its row of the matrix.
 -- Assumes nothing.
-use Rattle.std.proofs.Common.{◌^◌, [], ◌∷◌, get_or, refl, lit<}
+use Rattle.std.proofs.Common.{◌^◌, [], ◌∷◌, get_or, refl}
 use Rattle.numbers.proofs.Linear.{form-input, form-word, form-plus as add, form-minus as sub, form-times as mul}
 use Rattle.matrix.specs.Parts.{even_matrix}
-use Rattle.matrix.proofs.Calls.{free}
 use Rattle.matrix.proofs.negacyclic.negacyclic_even.Goals as goal
 
 pub returns : goal.returns

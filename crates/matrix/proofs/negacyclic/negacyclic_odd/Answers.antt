@@ -1,10 +1,9 @@
 -- `matrix::negacyclic::negacyclic_odd` meets its contract: a linear form for each node, line by line as
 -- the source has them, and then each word against its row of the matrix.
 -- Assumes nothing.
-use Rattle.std.proofs.Common.{◌^◌, [], ◌∷◌, get_or, refl, lit<}
+use Rattle.std.proofs.Common.{◌^◌, [], ◌∷◌, get_or, refl}
 use Rattle.numbers.proofs.Linear.{form-input, form-word, form-plus as add, form-minus as sub, form-times as mul}
 use Rattle.matrix.specs.Parts.{odd_matrix}
-use Rattle.matrix.proofs.Calls.{free}
 use Rattle.matrix.proofs.negacyclic.negacyclic_odd.Goals as goal
 
 pub returns : goal.returns

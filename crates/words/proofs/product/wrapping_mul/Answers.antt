@@ -1,6 +1,6 @@
 -- `words::product::wrapping_mul` meets its contract: the laws of `Digits` at the base 2 ^ 32.
 -- Assumes nothing.
-use Rattle.std.proofs.Common.{◌≡◌, ℕ, ◌+◌, ◌*◌, ◌/◌, ◌%◌, ◌^◌, sym, ap, ◌∙◌, div-add-mod', rules}
+use Rattle.std.proofs.Common.{◌≡◌, ℕ, ◌+◌, ◌*◌, ◌/◌, ◌%◌, ◌^◌, sym, ap, ◌∙◌, div-add-mod'}
 use Rattle.words.proofs.product.Digits.{lower-digits}
 use Rattle.words.proofs.product.Halves.{B, lower-lt, upper-lt, product-fits}
 use Rattle.words.proofs.product.wrapping_mul.Goals as goal
