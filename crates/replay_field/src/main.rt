@@ -3,6 +3,7 @@
 
 mod vectors;
 
+use std::io;
 use tip5::b_field_element::{BFieldElement, ElementAnswer, Value};
 
 // A call's refusal, 0 for none, and its answer.
@@ -83,16 +84,12 @@ fn difference(i: usize) -> u64 {
 fn different() -> u64 {
     let mut found: u64 = 0;
     for i in 0..vectors::CASES {
-        found = std::num::wrapping_add_u64(found, difference(i));
+        found = found.wrapping_add(difference(i));
     }
     found
 }
 
-fn main() {
+fn main(rt: HostRuntime) -> io::Result<()> {
     let found = different();
-    io::write_all(1, b"field: ");
-    io::print_decimal(1, vectors::CASES as u64);
-    io::write_all(1, b" cases, ");
-    io::print_decimal(1, found);
-    io::write_all(1, b" different\n");
+    println!(rt; "field: {} cases, {found} different", vectors::CASES)
 }

@@ -6,6 +6,7 @@ mod vectors;
 
 use replay::{differ, part, sixteen};
 use states::{in_place, trace};
+use std::io;
 use tip5::permutation::StateAnswer;
 use tip5::{inverse, permutation};
 
@@ -39,39 +40,36 @@ fn permuted(entry: &[u64], want: &[u64]) -> u64 {
     let mut lent = sixteen(entry);
     let one = differ_by_value(permutation::permutation(lent), want);
     let refusal = in_place::permute(&mut lent);
-    std::num::wrapping_add_u64(one, differ_in_place(refusal, &lent, want))
+    one.wrapping_add(differ_in_place(refusal, &lent, want))
 }
 
 fn walked_back(entry: &[u64], want: &[u64]) -> u64 {
     let mut lent = sixteen(entry);
     let one = differ_by_value(inverse::inv_permutation(lent), want);
     let refusal = in_place::inv_permute(&mut lent);
-    std::num::wrapping_add_u64(one, differ_in_place(refusal, &lent, want))
+    one.wrapping_add(differ_in_place(refusal, &lent, want))
 }
 
 fn of_permutation(before: &[u64], after: &[u64]) -> u64 {
-    std::num::wrapping_add_u64(permuted(before, after), walked_back(after, before))
+    permuted(before, after).wrapping_add(walked_back(after, before))
 }
 
 fn moved(round: usize, entry: &[u64], want: &[u64]) -> u64 {
     let mut lent = sixteen(entry);
     let one = differ_by_value(permutation::round(round, lent), want);
     let refusal = in_place::permute_round(round, &mut lent);
-    std::num::wrapping_add_u64(one, differ_in_place(refusal, &lent, want))
+    one.wrapping_add(differ_in_place(refusal, &lent, want))
 }
 
 fn moved_back(round: usize, entry: &[u64], want: &[u64]) -> u64 {
     let mut lent = sixteen(entry);
     let one = differ_by_value(inverse::inv_round(round, lent), want);
     let refusal = in_place::inv_permute_round(round, &mut lent);
-    std::num::wrapping_add_u64(one, differ_in_place(refusal, &lent, want))
+    one.wrapping_add(differ_in_place(refusal, &lent, want))
 }
 
 fn of_round(round: usize, before: &[u64], after: &[u64]) -> u64 {
-    std::num::wrapping_add_u64(
-        moved(round, before, after),
-        moved_back(round, after, before),
-    )
+    moved(round, before, after).wrapping_add(moved_back(round, after, before))
 }
 
 // How many answers on one trace differ.
@@ -83,12 +81,12 @@ fn on_one(trace: &[u64]) -> u64 {
     let s4 = part(trace, 64, 16);
     let s5 = part(trace, 80, 16);
     let mut found = of_trace(trace);
-    found = std::num::wrapping_add_u64(found, of_permutation(s0, s5));
-    found = std::num::wrapping_add_u64(found, of_round(0, s0, s1));
-    found = std::num::wrapping_add_u64(found, of_round(1, s1, s2));
-    found = std::num::wrapping_add_u64(found, of_round(2, s2, s3));
-    found = std::num::wrapping_add_u64(found, of_round(3, s3, s4));
-    found = std::num::wrapping_add_u64(found, of_round(4, s4, s5));
+    found = found.wrapping_add(of_permutation(s0, s5));
+    found = found.wrapping_add(of_round(0, s0, s1));
+    found = found.wrapping_add(of_round(1, s1, s2));
+    found = found.wrapping_add(of_round(2, s2, s3));
+    found = found.wrapping_add(of_round(3, s3, s4));
+    found = found.wrapping_add(of_round(4, s4, s5));
     found
 }
 
@@ -97,7 +95,7 @@ fn on_all(traces: &[u64]) -> u64 {
     let mut found: u64 = 0;
     let mut at = 0;
     while 96 <= traces.len() - at {
-        found = std::num::wrapping_add_u64(found, on_one(&traces[at..at + 96]));
+        found = found.wrapping_add(on_one(&traces[at..at + 96]));
         at += 96;
     }
     found
@@ -123,14 +121,10 @@ fn on_chance() -> u64 {
     on_all(&traces)
 }
 
-fn main() {
+fn main(rt: HostRuntime) -> io::Result<()> {
     let mut found = on_known();
-    found = std::num::wrapping_add_u64(found, on_beyond_p());
-    found = std::num::wrapping_add_u64(found, on_edges());
-    found = std::num::wrapping_add_u64(found, on_chance());
-    io::write_all(1, b"permutation: ");
-    io::print_decimal(1, (vectors::CASES as u64) * ANSWERS);
-    io::write_all(1, b" cases, ");
-    io::print_decimal(1, found);
-    io::write_all(1, b" different\n");
+    found = found.wrapping_add(on_beyond_p());
+    found = found.wrapping_add(on_edges());
+    found = found.wrapping_add(on_chance());
+    println!(rt; "permutation: {} cases, {found} different", (vectors::CASES as u64) * ANSWERS)
 }

@@ -6,6 +6,8 @@ mod published;
 mod stored;
 mod vectors;
 
+use std::io;
+
 // Case i of a group: 1 where the answer differs, otherwise 0.
 fn difference(group: u64, i: usize) -> u64 {
     // No group has so many cases: the bound keeps the places from wrapping.
@@ -28,26 +30,22 @@ fn difference(group: u64, i: usize) -> u64 {
 fn different(group: u64, cases: usize) -> u64 {
     let mut found: u64 = 0;
     for i in 0..cases {
-        found = std::num::wrapping_add_u64(found, difference(group, i));
+        found = found.wrapping_add(difference(group, i));
     }
     found
 }
 
-fn report(name: &[u8], group: u64, cases: usize) {
-    io::write_all(1, name);
-    io::print_decimal(1, cases as u64);
-    io::write_all(1, b" cases, ");
-    io::print_decimal(1, different(group, cases));
-    io::write_all(1, b" different\n");
+fn report(rt: HostRuntime, name: &str, group: u64, cases: usize) -> io::Result<()> {
+    println!(rt; "{name}: {cases} cases, {} different", different(group, cases))
 }
 
-fn main() {
-    report(b"starts: ", 0, 2);
-    report(b"absorb, squeeze: ", 1, 16);
-    report(b"step_back: ", 2, 16);
-    report(b"pad_and_absorb_all: ", 3, 17);
-    report(b"hash_10: ", 4, 16);
-    report(b"hash_pair: ", 5, 16);
-    report(b"hash_varlen: ", 6, 102);
-    report(b"published: ", 7, 2);
+fn main(rt: HostRuntime) -> io::Result<()> {
+    report(rt, "starts", 0, 2)?;
+    report(rt, "absorb, squeeze", 1, 16)?;
+    report(rt, "step_back", 2, 16)?;
+    report(rt, "pad_and_absorb_all", 3, 17)?;
+    report(rt, "hash_10", 4, 16)?;
+    report(rt, "hash_pair", 5, 16)?;
+    report(rt, "hash_varlen", 6, 102)?;
+    report(rt, "published", 7, 2)
 }
