@@ -1,3 +1,3 @@
--- The laws of this crate's definitions, and what its walks by hand share.
+-- The laws of this crate's definitions, and what a view owes of its parts.
 pub mod ColumnLaws
 pub mod ViewLaws

@@ -1,6 +1,6 @@
 // A column of a slice of words: every stride-th word from an offset on. `row_count` and `entry` do the
 // work on plain parameters. `Column` holds the three together, as the Rust has it: the functions over
-// it take it apart, and their proofs are walks by hand. Other code calls `column_entry`.
+// it take it apart. Other code calls `column_entry`.
 #![tactic(auto)]
 
 ghost use Rattle.std.specs.Prelude.{◌≡◌};
