@@ -4,7 +4,6 @@ pub mod AnswerLaws
 pub mod BelowLaws
 pub mod DigestLaws
 pub mod HistoryLaws
-pub mod LentWalk
 pub mod ListLaws
 pub mod PaddingLaws
 pub mod RecordLaws

@@ -1,0 +1,14 @@
+-- `judge::judge_hash_10` meets its contract.
+-- Assumes nothing.
+use mathlib.Core.List.{[], ◌∷◌}
+use Rattle.refusals.specs.Judge.{word_refusal}
+use Rattle.refusals.proofs.RefusalLaws.{first-ends, first-stops}
+use Rattle.sponge.proofs.judge.judge_hash_10.Goals as goal
+
+pub returns-then-refusal-ne-NONE : goal.returns-then-refusal-ne-NONE
+returns-then-refusal-ne-NONE c =
+    let ten = c.args.ten.now in
+    first-stops (word_refusal ten ∷ []) c.judge_length-refusal.ensures c.if-refusal-ne-NONE.true
+
+pub returns : goal.returns
+returns c = first-ends c.judge_length-refusal.ensures c.if-refusal-ne-NONE.false c.judge_words.ensures

@@ -1,0 +1,14 @@
+-- `judge::judge_input` meets its contract.
+-- Assumes nothing.
+use mathlib.Core.List.{[], ◌∷◌}
+use Rattle.refusals.specs.Judge.{word_refusal}
+use Rattle.refusals.proofs.RefusalLaws.{first-ends, first-stops}
+use Rattle.sponge.proofs.judge.judge_input.Goals as goal
+
+pub returns-then-refusal-ne-NONE : goal.returns-then-refusal-ne-NONE
+returns-then-refusal-ne-NONE c =
+    let input = c.args.input.now in
+    first-stops (word_refusal input ∷ []) c.judge_sponge-refusal.ensures c.if-refusal-ne-NONE.true
+
+pub returns : goal.returns
+returns c = first-ends c.judge_sponge-refusal.ensures c.if-refusal-ne-NONE.false c.judge_words.ensures
