@@ -71,6 +71,7 @@ pub fn digest_line(values: &[u64; 5], out: &mut [u8; 65536]) -> usize
 
 // The line of a draw: its squeezes and its indices. For more of them than a line may have nothing is
 // written, and the answer is 0.
+#[tactic(auto, unfolding(crate::specs::Line::bounded_draw_line, crate::specs::Line::draw_line))]
 pub fn draw_line(squeezes: u64, indices: &[u32], out: &mut [u8; 65536]) -> usize
     ensures { Front out.old (bounded_draw_line squeezes indices.now) out.new result }
 {
