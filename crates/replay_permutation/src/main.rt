@@ -126,5 +126,8 @@ fn main(rt: HostRuntime) -> io::Result<()> {
     found = found.wrapping_add(on_beyond_p());
     found = found.wrapping_add(on_edges());
     found = found.wrapping_add(on_chance());
-    println!(rt; "permutation: {} cases, {found} different", (vectors::CASES as u64) * ANSWERS)
+    println!(rt;
+        "permutation: {} cases, {found} different",
+        (vectors::CASES as u64) * ANSWERS
+    )
 }

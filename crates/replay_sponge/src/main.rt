@@ -36,7 +36,10 @@ fn different(group: u64, cases: usize) -> u64 {
 }
 
 fn report(rt: HostRuntime, name: &str, group: u64, cases: usize) -> io::Result<()> {
-    println!(rt; "{name}: {cases} cases, {} different", different(group, cases))
+    println!(rt;
+        "{name}: {cases} cases, {} different",
+        different(group, cases)
+    )
 }
 
 fn main(rt: HostRuntime) -> io::Result<()> {
