@@ -1,4 +1,4 @@
--- The laws of this crate's definitions, and what its walks by hand share.
+-- The laws of this crate's definitions.
 pub mod AbsorbLaws
 pub mod DigestLaws
 pub mod JoinedLaws
