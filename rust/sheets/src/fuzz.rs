@@ -8,6 +8,7 @@ use crate::starter::Starter;
 use cases::Random;
 use command_line::Progress;
 use std::io;
+use std::path::Path;
 use std::sync::Mutex;
 use std::sync::atomic::{AtomicUsize, Ordering};
 use std::time::{Duration, Instant};
@@ -65,6 +66,20 @@ pub fn run(options: &Options) -> bool {
     let complaints = tally.complaints();
     complaints.iter().for_each(|it| println!("{it}"));
     tally.different() == 0 && complaints.is_empty()
+}
+
+/// Writes each sheet to a file of its own, with its line beside it.
+pub fn write(options: &Options, folder: &Path) -> io::Result<()> {
+    for case in 0..options.cases {
+        let sheet = sheet_of(options.seed, case);
+        let name = folder.join(format!("{case:06}"));
+        std::fs::write(&name, &sheet)?;
+        std::fs::write(
+            name.with_extension("stdout"),
+            format!("{}\n", reading::read(&sheet)),
+        )?;
+    }
+    Ok(())
 }
 
 /// Takes the next case until there is none.
