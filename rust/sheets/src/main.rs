@@ -7,7 +7,6 @@ mod kinds;
 mod options;
 mod program;
 mod reading;
-mod starter;
 
 use options::Options;
 use std::path::Path;
