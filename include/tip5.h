@@ -1,4 +1,4 @@
-/* Tip5's permutation and its inverse, from the library that `rt staticlib tip5_c` writes:
+/* Tip5's permutation and its inverse, from the library that `tools/build tip5_c` proves and builds:
  * target/staticlib/libtip5_c.a, for x86-64.
  *
  * `state` is sixteen raw words of eight bytes, each lowest byte first: 128 bytes. An element of value

@@ -19,55 +19,24 @@ need_source() {
     export VARDRAKUP_SOURCE
 }
 
-need_rt() {
-    command -v rt >/dev/null || leave "there is no rt"
-}
-
-# Whether a file was made after every crate was last changed.
-is_newest() { # FILE
-    [ -e "$1" ] && [ -z "$(find "$root/crates" "$root/crates.txt" -newer "$1" -print -quit)" ]
+# Has crates proved and built, as tools/build does it, unless they were since they last changed.
+need_built() { # NAME...
+    status=0
+    "$root/tools/build" "$@" || status=$?
+    case $status in
+    0) ;;
+    2) leave "there is no rt" ;;
+    *) exit 1 ;;
+    esac
 }
 
 # Sets VARDRAKUP_ARCHIVES, the folder that holds the static libraries libNAME.a of the crates named,
-# and builds them for x86-64, unless it is given.
+# and has them proved and built, unless it is given.
 need_archives() { # NAME...
     [ -z "${VARDRAKUP_ARCHIVES:-}" ] || return 0
-    mkdir -p "$root/target/log"
-    for name in "$@"; do
-        is_newest "$root/target/staticlib/lib$name.a" && continue
-        need_rt
-        log=$root/target/log/staticlib-$name
-        echo "proving and building lib$name.a, which takes some minutes the first time" >&2
-        (cd "$root" && rt staticlib "$name") >"$log" 2>&1 || { cat "$log" && exit 1; }
-    done
+    need_built "$@"
     VARDRAKUP_ARCHIVES=$root/target/staticlib
     export VARDRAKUP_ARCHIVES
-}
-
-# The same with no proof, in seconds.
-need_unproved_archives() { # NAME...
-    [ -z "${VARDRAKUP_ARCHIVES:-}" ] || return 0
-    for name in "$@"; do
-        is_newest "$root/target/unproved/lib$name.a" && continue
-        need_rt
-        "$here/unproved-archive" "$name"
-    done
-    VARDRAKUP_ARCHIVES=$root/target/unproved
-    export VARDRAKUP_ARCHIVES
-}
-
-# The proved ones for the machine at hand, for what has to be linked with Rust.
-need_native_archives() { # NAME...
-    if [ -z "${VARDRAKUP_ARCHIVES:-}" ] && [ "$(uname -m)" != x86_64 ]; then
-        for name in "$@"; do
-            is_newest "$root/target/native/lib$name.a" && continue
-            need_rt
-            "$here/native-archive" "$name"
-        done
-        VARDRAKUP_ARCHIVES=$root/target/native
-        export VARDRAKUP_ARCHIVES
-    fi
-    need_archives "$@"
 }
 
 # One line of a table of counts: a name, ours, theirs and their ratio. Ours is - where it is not there.

@@ -1,9 +1,9 @@
 /* Our calls, as the static library of the crate `probe` exports them for tests and benchmarks.
  *
- * This list is the only one: the build script reads it and writes from it what calls each function,
- * from Rust or from the server. One declaration to a line. A pointer and the `size_t` after it are a
- * lent slice; an array has as many items as it says. Every call answers its refusal number, 0 for
- * none. Elements are raw words.
+ * This list is the only one: the build script reads it and writes from it what calls each function
+ * from Rust. One declaration to a line. A pointer and the `size_t` after it are a lent slice; an array
+ * has as many items as it says. Every call answers its refusal number, 0 for none. Elements are raw
+ * words.
  */
 #include <stddef.h>
 #include <stdint.h>

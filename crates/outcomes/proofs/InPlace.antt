@@ -14,7 +14,7 @@ use Rattle.sponge.specs.declared.by_value.SqueezeAnswer.{SqueezeAnswer}
 use Rattle.sponge.specs.InPlace.{leaving}
 use Rattle.sponge.specs.contracts.Tip5.absorb as absorb
 use Rattle.sponge.specs.contracts.Tip5.pad_and_absorb_all as pad-and-absorb-all
-use Rattle.sponge.specs.contracts.Tip5.step_back as step_back
+use Rattle.sponge.specs.contracts.Tip5.step_back as step-back
 use Rattle.sponge.specs.contracts.Tip5.squeeze as squeeze
 use Rattle.draws.specs.declared.DrawAnswer.{DrawAnswer}
 use Rattle.draws.specs.contracts.in_place.sample_indices as sample-indices
@@ -32,7 +32,7 @@ module _ {M : Type 1} {𝓤 : Ura M} (𝓛 : Logic 𝓤) (mem : Memory → SProp
   pub pad-and-absorb-all-once : OneOutcome 𝓤 pad-and-absorb-all.ended (pad-and-absorb-all.clauses 𝓛 mem run) λ κs x y e f. (x ≡ y) × (e.0.now ≡ f.0.now)
   pad-and-absorb-all-once κs a g x y e f = both 𝓤 λ h k. left h k
 
-  pub step-back-once : OneOutcome 𝓤 step_back.ended (step_back.clauses 𝓛 mem run) λ κs x y e f. (x ≡ y) × (e.0.now ≡ f.0.now)
+  pub step-back-once : OneOutcome 𝓤 step-back.ended (step-back.clauses 𝓛 mem run) λ κs x y e f. (x ≡ y) × (e.0.now ≡ f.0.now)
   step-back-once κs a g x y e f = both 𝓤 λ h k. left h k
 
   pub squeeze-once : OneOutcome 𝓤 squeeze.ended (squeeze.clauses 𝓛 mem run) λ κs x y e f. (x ≡ y) × (e.0.now ≡ f.0.now)

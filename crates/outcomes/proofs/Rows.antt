@@ -7,7 +7,7 @@ use types.Logic.{Logic}
 use seplogic.Ra.Ura.{Ura}
 use prog.Memory.{Memory}
 use prog.Routine.{Routine}
-use Rattle.columns.proofs.row_count.Reads as row_count
+use Rattle.columns.proofs.row_count.Reads as row-count
 use Rattle.columns.proofs.entry.Reads as entry
 use Rattle.columns.specs.contracts.column_entry as column-entry
 use Rattle.columns.specs.contracts.Column.num_rows as num-rows
@@ -17,7 +17,7 @@ use Rattle.draws.proofs.sample_indices.Reads as sample-indices
 use Rattle.outcomes.specs.Outcome.{OneAnswer, OneExit, OneOutcome}
 use Rattle.outcomes.proofs.Same.{both, same}
 
-pub row-count-once : OneAnswer row_count.Learnt
+pub row-count-once : OneAnswer row-count.Learnt
 row-count-once κs a x y e f h k = same h k
 
 pub entry-once : OneAnswer entry.Learnt

@@ -8,7 +8,7 @@ use Rattle.sponge.proofs.Tip5.hash_varlen.Reads as hash-varlen
 use Rattle.sponge.proofs.by_value.absorb.Reads as absorb
 use Rattle.sponge.proofs.by_value.squeeze.Reads as squeeze
 use Rattle.sponge.proofs.by_value.pad_and_absorb_all.Reads as pad-and-absorb-all
-use Rattle.sponge.proofs.step_back.step_back.Reads as step_back
+use Rattle.sponge.proofs.step_back.step_back.Reads as step-back
 use Rattle.outcomes.specs.Outcome.{OneAnswer}
 use Rattle.outcomes.proofs.Same.{same}
 
@@ -36,5 +36,5 @@ squeeze-once κs a x y e f h k = same h k
 pub pad-and-absorb-all-once : OneAnswer pad-and-absorb-all.Learnt
 pad-and-absorb-all-once κs a x y e f h k = same h k
 
-pub step-back-once : OneAnswer step_back.Learnt
+pub step-back-once : OneAnswer step-back.Learnt
 step-back-once κs a x y e f h k = same h k

@@ -1,11 +1,10 @@
 //! Looks into an archive: for which machine it is, and which calls it has.
 
-use std::path::{Path, PathBuf};
+use std::path::Path;
 use std::{env, fs};
 
 pub struct Archive {
     name: &'static str,
-    file: PathBuf,
     bytes: Vec<u8>,
 }
 
@@ -18,15 +17,11 @@ impl Archive {
             return Ok(None);
         }
         let bytes = fs::read(&file).map_err(|error| format!("{}: {error}", file.display()))?;
-        Ok(Some(Self { name, file, bytes }))
+        Ok(Some(Self { name, bytes }))
     }
 
     pub fn name(&self) -> &str {
         self.name
-    }
-
-    pub fn file(&self) -> &Path {
-        &self.file
     }
 
     /// Whether its code is for the machine that Rust builds for.

@@ -1,6 +1,6 @@
-//! Writes code from the list of calls: the table for Rust, and for Rust or C one function that
-//! makes the call of a given number. Both take the arguments as `Raw` values: a number in `word`,
-//! or the address and the number of items of what is lent in `data` and `length`.
+//! Writes code from the list of calls: the table, and one function that makes the call of a given
+//! number. It takes the arguments as `Raw` values: a number in `word`, or the address and the number
+//! of items of what is lent in `data` and `length`.
 
 use crate::header::{Call, Param};
 use crate::{kinds, rust_type};
@@ -84,47 +84,4 @@ fn rust_params(call: &Call) -> Vec<(String, String)> {
 fn rust_pointer(item: &str, shared: bool) -> String {
     let kind = if shared { "*const" } else { "*mut" };
     format!("{kind} {}", rust_type(item))
-}
-
-/// The functions, the shapes of their parameters and the function that calls them, as C.
-pub fn c_calls(calls: &[Call]) -> String {
-    let mut declared = String::new();
-    let mut shapes = String::new();
-    let mut arms = String::new();
-    for (index, call) in calls.iter().enumerate() {
-        let sizes: Vec<_> = call.params.iter().map(c_size).collect();
-        shapes += &format!("    {{{}, {{{}}}}},\n", sizes.len(), sizes.join(", "));
-        if call.present {
-            let (types, values): (Vec<_>, Vec<_>) = c_params(call).into_iter().unzip();
-            let (name, types, values) = (&call.name, types.join(", "), values.join(", "));
-            declared += &format!("uint32_t {name}({types});\n");
-            arms += &format!("    case {index}: return {name}({values});\n");
-        }
-    }
-    format!(
-        "{declared}\nstatic const struct shape shapes[] = {{\n{shapes}}};\n\n\
-         static uint32_t call(uint64_t index, struct raw *args) {{\n    \
-         switch (index) {{\n{arms}    default: __builtin_trap();\n    }}\n}}\n"
-    )
-}
-
-/// The size of an item of a parameter, 0 for a number, as C.
-fn c_size(param: &Param) -> String {
-    match param {
-        Param::Number(_) => "0".to_string(),
-        Param::Array { item, .. } | Param::Slice { item, .. } => format!("sizeof({item})"),
-    }
-}
-
-/// The parameters of a function: the type of each, and its value out of `args`.
-fn c_params(call: &Call) -> Vec<(String, String)> {
-    let of_param = |(i, param): (usize, &Param)| match param {
-        Param::Number(kind) => vec![(kind.clone(), format!("args[{i}].word"))],
-        Param::Array { item, .. } => vec![(format!("{item} *"), format!("args[{i}].data"))],
-        Param::Slice { item, .. } => vec![
-            (format!("{item} *"), format!("args[{i}].data")),
-            ("size_t".to_string(), format!("args[{i}].length")),
-        ],
-    };
-    call.params.iter().enumerate().flat_map(of_param).collect()
 }

@@ -1,12 +1,10 @@
 //! Makes our calls reachable from Rust. The headers list them; VARDRAKUP_ARCHIVES names the folder
-//! that has the archives. Where those are for the machine that Rust builds for, their functions are
-//! linked in. Otherwise they go into a server, an x86-64 program that the kit's emulator runs.
+//! that has the archives, whose functions are linked in.
 
 mod archive;
 mod generate;
 mod header;
 mod kinds;
-mod server;
 
 use archive::Archive;
 use std::path::{Path, PathBuf};
@@ -19,7 +17,6 @@ fn main() {
     println!("cargo::rerun-if-changed=build");
     println!("cargo::rerun-if-env-changed=VARDRAKUP_ARCHIVES");
     println!("cargo::rustc-check-cfg=cfg(linked)");
-    println!("cargo::rustc-check-cfg=cfg(served)");
     if let Err(reason) = make() {
         println!("cargo::error={reason}");
     }
@@ -55,11 +52,10 @@ fn make() -> Result<(), String> {
             println!("cargo::rustc-cfg=linked");
             write(&out.join("linked.rs"), &generate::rust_calls(&calls))
         }
-        (Some(_), all) => {
-            println!("cargo::rustc-cfg=served");
-            write(&out.join("calls.h"), &generate::c_calls(&calls))?;
-            server::build(all, &out)
-        }
+        (Some(folder), _) => Err(format!(
+            "{} has archives for another machine",
+            folder.display()
+        )),
     }
 }
 

@@ -1,6 +1,5 @@
-//! Our calls, made from Rust: linked into this process where the archives are for this machine,
-//! otherwise through the server. A request and its answer are plain data, so that both ways look
-//! the same to who compares.
+//! Our calls, made from Rust: linked into this process. A request and its answer are plain data, so
+//! that both sides look the same to who compares.
 
 mod kinds;
 mod table;
@@ -8,8 +7,7 @@ mod table;
 mod unlinked;
 
 #[cfg_attr(linked, path = "linked.rs")]
-#[cfg_attr(served, path = "served.rs")]
-#[cfg_attr(not(any(linked, served)), path = "absent.rs")]
+#[cfg_attr(not(linked), path = "absent.rs")]
 mod way;
 
 pub use kinds::{OnList, OnState, OnStateAndIndices, OnStateAndList, OnStateAndTen};

@@ -252,19 +252,16 @@ fn silent(mut command: Command) -> Verdict {
     Err(format!("wanted nothing, got {}", ran.description()))
 }
 
-/// It ends, by the signal that ends a writer without a reader.
+/// It ends by itself: the signal that ends a writer without a reader is ignored, and the write fails.
 fn no_reader(program: &Program) -> Verdict {
     let status = into_nothing(program.redirected(""))?;
-    let signal = 13;
-    if std::os::unix::process::ExitStatusExt::signal(&status) == Some(signal)
-        || status.code() == Some(128 + signal)
-    {
+    if status.success() {
         return Ok(());
     }
     Err(format!("it ended with {status}"))
 }
 
-/// The same where that signal is ignored: the write fails, and it ends by itself.
+/// The same where that signal is ignored from the start.
 fn no_reader_no_signal(program: &Program) -> Verdict {
     let mut command = Command::new("sh");
     command

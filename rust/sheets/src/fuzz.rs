@@ -2,19 +2,15 @@
 
 use crate::kinds::{KINDS, Kind};
 use crate::options::Options;
-use crate::program::{Ran, shown};
+use crate::program::shown;
 use crate::reading::{self, OUTCOMES};
-use crate::starter::Starter;
 use cases::Random;
 use command_line::Progress;
 use std::io;
+use std::path::Path;
 use std::sync::Mutex;
 use std::sync::atomic::{AtomicUsize, Ordering};
 use std::time::{Duration, Instant};
-
-/// Where there is a starter, one sheet of so many has the program started by itself all the same. The
-/// kinds take turns by another number, so every kind has some.
-const BY_ITSELF: usize = 20;
 
 /// Where the smallest sheet that differs is kept.
 const KEPT: &str = "target/log/different.sheet";
@@ -67,9 +63,22 @@ pub fn run(options: &Options) -> bool {
     tally.different() == 0 && complaints.is_empty()
 }
 
+/// Writes each sheet to a file of its own, with its line beside it.
+pub fn write(options: &Options, folder: &Path) -> io::Result<()> {
+    for case in 0..options.cases {
+        let sheet = sheet_of(options.seed, case);
+        let name = folder.join(format!("{case:06}"));
+        std::fs::write(&name, &sheet)?;
+        std::fs::write(
+            name.with_extension("stdout"),
+            format!("{}\n", reading::read(&sheet)),
+        )?;
+    }
+    Ok(())
+}
+
 /// Takes the next case until there is none.
 fn work(options: &Options, next: &AtomicUsize, tally: &Mutex<Tally>) {
-    let mut ways = Ways::new(options);
     loop {
         let case = next.fetch_add(1, Ordering::Relaxed);
         if case >= options.cases {
@@ -78,7 +87,7 @@ fn work(options: &Options, next: &AtomicUsize, tally: &Mutex<Tally>) {
         let sheet = sheet_of(options.seed, case);
         let line = reading::read(&sheet);
         let wanted = line.to_string();
-        let got = match ways.run(case, &sheet) {
+        let got = match options.program.run(&sheet) {
             Ok(ran) if ran.wrote(&wanted) => None,
             Ok(ran) => Some(ran.description()),
             Err(error) => Some(format!("could not be run: {error}")),
@@ -92,38 +101,6 @@ fn work(options: &Options, next: &AtomicUsize, tally: &Mutex<Tally>) {
         let mut tally = tally.lock().expect("no run panicked");
         tally.count(case, line.outcome(), difference);
         tally.tell_progress(options.cases);
-    }
-}
-
-/// The ways to start the program: by itself, or by a starter where there is one.
-struct Ways<'a> {
-    options: &'a Options,
-    starter: Option<Starter>,
-}
-
-impl<'a> Ways<'a> {
-    fn new(options: &'a Options) -> Self {
-        Self {
-            options,
-            starter: None,
-        }
-    }
-
-    /// A starter that failed is not asked again.
-    fn run(&mut self, case: usize, sheet: &[u8]) -> io::Result<Ran> {
-        let Some(words) = self.options.serve.as_deref() else {
-            return self.options.program.run(sheet);
-        };
-        if case.is_multiple_of(BY_ITSELF) {
-            return self.options.program.run(sheet);
-        }
-        let mut starter = match self.starter.take() {
-            Some(starter) => starter,
-            None => Starter::open(words)?,
-        };
-        let ran = starter.run(sheet)?;
-        self.starter = Some(starter);
-        Ok(ran)
     }
 }
 

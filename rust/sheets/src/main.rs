@@ -7,9 +7,9 @@ mod kinds;
 mod options;
 mod program;
 mod reading;
-mod starter;
 
 use options::Options;
+use std::path::Path;
 use std::process::ExitCode;
 
 fn main() -> ExitCode {
@@ -17,11 +17,25 @@ fn main() -> ExitCode {
     if let Some(file) = &options.read {
         return read(file);
     }
+    if let Some(folder) = &options.write {
+        return write(&options, folder);
+    }
     let behaves = !options.behaviour || behaviour::run(&options.program);
     if behaves & fuzz::run(&options) {
         ExitCode::SUCCESS
     } else {
         ExitCode::FAILURE
+    }
+}
+
+/// Writes the sheets to a folder, each with its line.
+fn write(options: &Options, folder: &str) -> ExitCode {
+    match fuzz::write(options, Path::new(folder)) {
+        Ok(()) => ExitCode::SUCCESS,
+        Err(error) => {
+            eprintln!("sheets: {folder}: {error}");
+            ExitCode::FAILURE
+        }
     }
 }
 

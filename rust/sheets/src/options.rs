@@ -13,15 +13,14 @@ sheets: hold the program draw_sheet to a second reading of sheets, over the real
   --jobs N        programs that run at a time (default: the machine's processors)
   --no-behaviour  leave out the tests of its input and output
   --launch WORDS  the words that start the program, one to a line
-  --serve WORDS   the words that start it with starter.c beside it; it then starts the program for
-                  all sheets but every twentieth, and less is spent on starts
   --read FILE     only write the second reading's line of one sheet
+  --write FOLDER  only write the sheets to a folder, each with its line beside it in NAME.stdout
   --help          this text
 
 Exit status: 0 where nothing differs and each kind of line was met, otherwise 1.
 ",
     with_value: &[
-        "--cases", "--seed", "--jobs", "--launch", "--serve", "--read",
+        "--cases", "--seed", "--jobs", "--launch", "--read", "--write",
     ],
     alone: &["--no-behaviour"],
 };
@@ -32,10 +31,10 @@ pub struct Options {
     pub jobs: usize,
     pub behaviour: bool,
     pub program: Program,
-    /// The words that start the starter.
-    pub serve: Option<Vec<String>>,
     /// A file whose line is to be written, and nothing else done.
     pub read: Option<String>,
+    /// A folder that the sheets are to be written to, and nothing else done.
+    pub write: Option<String>,
 }
 
 impl Options {
@@ -55,8 +54,8 @@ impl Options {
             program: Program {
                 words: words("--launch").unwrap_or_else(own),
             },
-            serve: words("--serve"),
             read: given.text("--read").map(str::to_string),
+            write: given.text("--write").map(str::to_string),
         }
     }
 }
