@@ -19,7 +19,7 @@ abbrev pub OneExit : {K : Type 0} {A X E S : K → Type 0} → ((k : K) → A k 
 OneExit {K} {A} {X} {E} Contract seen =
     (k : K) (a : A k) (x y : X k) (e f : E k) → Contract k a x e → Contract k a y f → seen k e ≡ seen k f
 
--- A contract as its clauses, for a call whose proof is a walk by hand: what its `ensures` says of two answers together
+-- A contract as its clauses: what its `ensures` says of two answers together
 
 abbrev pub OneOutcome : {M : Type 1} (𝓤 : Ura M) (T : Ended) → Clauses 𝓤 T
     → (Equal : (κs : Lfts T.signature.lifetimes) (x y : Res T.signature κs) (e f : AtExit T κs) → Type 0) → Type 1

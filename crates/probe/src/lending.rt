@@ -1,5 +1,5 @@
 // A record in a local is lent to a call in place: its answer, and the record as the call left it, make up the answer by
-// value. A function that lends a record is proved by a walk by hand, so each does nothing else.
+// value.
 ghost use Rattle.std.specs.Prelude.{◌≡◌, length};
 ghost use Rattle.sponge.specs.Answers.{absorb, pad_and_absorb_all, squeeze, step_back};
 ghost use Rattle.draws.specs.Answers.{sample_indices, sampled_slice};

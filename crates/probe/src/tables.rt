@@ -65,7 +65,7 @@ pub extern "C" fn probe_column_entry(
     answer.refusal as u32
 }
 
-// The rows of a view that is made for it. A function that makes a view is proved by a walk by hand.
+// The rows of a view that is made for it.
 fn column_rows(words: &[u64], stride: usize, offset: usize) -> CountAnswer
     ensures { result ≡ row_count words.now stride offset }
 {
