@@ -1,4 +1,5 @@
 -- `draw_sheet::read_full`: what was read so far is within the buffer.
+-- Assumes nothing.
 use Rattle.std.proofs.Common.{length, ◌-◌, ◌≤◌}
 use Rattle.draw_sheet.proofs.read_full.Given as goal
 
