@@ -16,9 +16,39 @@ pub fn number(comment: &str, name: &str, value: usize) -> String {
     format!("// {comment}\npub const {name}: usize = {value};\n\n")
 }
 
+/// A line has so many columns at most.
+const WIDTH: usize = 100;
+
+/// Words of so many digits or fewer stand many to a line, longer ones each on its own.
+const SHORT: usize = 10;
+
 /// An array of words, with a comment above.
 pub fn array(comment: &str, name: &str, words: &[u64]) -> String {
-    let lines: String = words.iter().map(|word| format!("    {word},\n")).collect();
+    let words: Vec<String> = words.iter().map(|word| format!("{word},")).collect();
+    let width = match words.iter().all(|word| word.len() <= SHORT + 1) {
+        true => WIDTH,
+        false => 0,
+    };
     let length = words.len();
-    format!("// {comment}\npub const {name}: [u64; {length}] = [\n{lines}];\n")
+    format!(
+        "// {comment}\npub const {name}: [u64; {length}] = [\n{}];\n",
+        lines(&words, width)
+    )
+}
+
+/// The words in indented lines of this width, or longer where a word alone is.
+fn lines(words: &[String], width: usize) -> String {
+    let mut text = String::new();
+    let mut line = String::new();
+    for word in words {
+        if !line.is_empty() && "    ".len() + line.len() + 1 + word.len() > width {
+            text += &format!("    {line}\n");
+            line.clear();
+        }
+        if !line.is_empty() {
+            line.push(' ');
+        }
+        line += word;
+    }
+    text + &format!("    {line}\n")
 }
