@@ -17,6 +17,7 @@ pub struct TraceAnswer {
 
 // The state as it is or, where word k of the trace is the first of a later state, after one round
 // more.
+#[tactic(auto, unfolding(crate::specs::Entering::entering))]
 fn entering(k: usize, state: [u64; 16]) -> [u64; 16]
     requires { (k < 96) × Below state }
     ensures { result ≡ Entering.entering k state }
