@@ -1,6 +1,5 @@
 //! The calls that are timed, on a state that lies where the source has it, so that no copy is
-//! timed with them. None is inlined, as ours can't be. The names by which they are exported are for
-//! `count.c`, which has no part in Rust.
+//! timed with them. None is inlined, as ours can't be.
 
 use super::super::inverse::InverseTip5;
 use super::*;
@@ -19,7 +18,6 @@ impl Sponge {
     }
 
     #[inline(never)]
-    #[unsafe(export_name = "theirs_permutation")]
     pub fn permutation(&mut self) {
         self.0.permutation_scalar();
     }
@@ -60,14 +58,12 @@ impl Inverse {
     }
 
     #[inline(never)]
-    #[unsafe(export_name = "theirs_inv_permutation")]
     pub fn inv_permutation(&mut self) {
         self.0.inv_permutation();
     }
 }
 
 #[inline(never)]
-#[unsafe(export_name = "theirs_generated_function")]
 pub fn generated_function(words: &mut [u64; STATE_SIZE]) {
     *words = Tip5::generated_function(*words);
 }
@@ -75,14 +71,4 @@ pub fn generated_function(words: &mut [u64; STATE_SIZE]) {
 #[inline(never)]
 pub fn hash_varlen(input: &[u64]) -> Five {
     sponge::hash_varlen(input)
-}
-
-/// The same for `count.c`, which lends a pointer and a length.
-///
-/// # Safety
-/// There are so many words at `input`, and room for a digest.
-#[unsafe(export_name = "theirs_hash_varlen")]
-pub unsafe extern "C" fn hash_varlen_at(input: *const u64, length: usize, digest: *mut Five) {
-    // SAFETY: as the caller says.
-    unsafe { *digest = hash_varlen(std::slice::from_raw_parts(input, length)) }
 }
