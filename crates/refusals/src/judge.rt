@@ -1,7 +1,8 @@
 // Judging words, lengths and rounds: each answers its refusal, and nothing where there is none.
-ghost use Rattle.std.specs.Prelude.{◌≡◌, ◌↔◌, ◌<◌, IsTrue};
+ghost use Rattle.std.specs.Prelude.{◌≡◌, ◌↔◌, ◌<◌, IsTrue, OnOk};
 ghost use Rattle.std.specs.List.{All};
 ghost use Rattle.numbers.specs.Modulus.{P};
+ghost use Rattle.rounds.specs.Field.{Below};
 ghost use Rattle.refusals.specs.Judge.{length_refusal, round_refusal, word_refusal};
 
 use crate::Refusal;
@@ -17,7 +18,8 @@ fn are_below(words: &[u64]) -> bool
 #[tactic(auto, using(crate::proofs::JudgeLaws::accepted_all, crate::proofs::JudgeLaws::refused_some))]
 /// `BadWord` where a word of the slice is P or more.
 pub fn judge_words(words: &[u64]) -> Result<(), Refusal>
-    ensures { result ≡ word_refusal words.now }
+    ensures value { result ≡ word_refusal words.now }
+    ensures below { OnOk result (Below words.now) }
 {
     if are_below(words) {
         Ok(())

@@ -1,15 +1,15 @@
 // The way back: the inverse of each round and of the permutation. Each public call judges its words
 // before anything moves.
-ghost use Rattle.std.specs.Prelude.{◌≡◌, ◌<◌, ◌≤◌};
+ghost use Rattle.std.specs.Prelude.{◌≡◌, ◌<◌};
 ghost use Rattle.rounds.specs.Field.{Below};
 ghost use Rattle.rounds.specs.Inverse.{inv_permuted, inv_round};
 ghost use Rattle.rounds.specs.InverseTables.{inv_lookup_table, raw_inv_column};
 ghost use Rattle.rounds.specs.Tables.{raw_constants};
 ghost use Rattle.tip5.specs.Permutation.{inv_one_round, inv_permutation};
-ghost use Rattle.tip5.specs.Moves.{moved};
 
 use crate::inverse_layers;
-use crate::permutation::{StateAnswer, Way, judged, judged_round};
+use refusals::Refusal;
+use refusals::judge::{judge_round, judge_words};
 use rounds::{inverse_tables, tables};
 
 fn inv_round_with(
@@ -45,31 +45,39 @@ fn five_inv_rounds_with(
     inv_round_with(table, column, constants, 0, s1)
 }
 
-// Round 0 to 4 undone or, for 5, all five. The tables of the way back are laid out in this function
-// alone.
-pub(crate) fn inv_rounds_of(which: usize, state: [u64; 16]) -> [u64; 16]
-    requires { (which ≤ 5) × Below state }
-    ensures { result ≡ moved Way.Back which state }
+fn inv_permuted(state: [u64; 16]) -> [u64; 16]
+    requires { Below state }
+    ensures { result ≡ inv_permuted state }
 {
     let table = inverse_tables::INV_LOOKUP_TABLE;
     let column = inverse_tables::INV_MDS_MATRIX_FIRST_COLUMN;
     let constants = tables::ROUND_CONSTANTS;
-    if which == 5 {
-        return five_inv_rounds_with(&table, &column, &constants, state);
-    }
-    inv_round_with(&table, &column, &constants, which, state)
+    five_inv_rounds_with(&table, &column, &constants, state)
 }
 
-// The state five rounds ago.
-pub fn inv_permutation(state: [u64; 16]) -> StateAnswer
+fn one_inv_round(round: usize, state: [u64; 16]) -> [u64; 16]
+    requires { (round < 5) × Below state }
+    ensures { result ≡ inv_round round state }
+{
+    let table = inverse_tables::INV_LOOKUP_TABLE;
+    let column = inverse_tables::INV_MDS_MATRIX_FIRST_COLUMN;
+    let constants = tables::ROUND_CONSTANTS;
+    inv_round_with(&table, &column, &constants, round, state)
+}
+
+/// The state five rounds ago.
+pub fn inv_permutation(state: [u64; 16]) -> Result<[u64; 16], Refusal>
     ensures { result ≡ inv_permutation state }
 {
-    judged(Way::Back, 5, state)
+    judge_words(&state)?;
+    Ok(inv_permuted(state))
 }
 
-// The state before one round, 0 to 4.
-pub fn inv_round(round: usize, state: [u64; 16]) -> StateAnswer
+/// The state before one round, 0 to 4.
+pub fn inv_round(round: usize, state: [u64; 16]) -> Result<[u64; 16], Refusal>
     ensures { result ≡ inv_one_round round state }
 {
-    judged_round(Way::Back, round, state)
+    judge_round(round)?;
+    judge_words(&state)?;
+    Ok(one_inv_round(round, state))
 }
