@@ -9,13 +9,13 @@ use borrow.Author.Tests.{le-ltb, lt-ltb}
 use lib.ListN.{drop_of_length-le, length}
 use Rattle.refusals.specs.Judge.{first, unless}
 use Rattle.refusals.proofs.UnlessLaws.{unless-granted}
-use Rattle.refusals.proofs.JudgeLaws.{below-accepted}
+use Rattle.refusals.proofs.JudgeLaws.{below_accepted}
 use Rattle.sponge.specs.declared.Domain.TheVariants.{VariableLength}
 use Rattle.sponge.specs.declared.Tip5.{Tip5}
 use Rattle.sponge.specs.History.{padded_steps}
 use Rattle.sponge.specs.Sponge.{start}
 use Rattle.sponge.proofs.HistoryLaws.{run-below}
-use Rattle.sponge.proofs.SpongeLaws.{start-below}
+use Rattle.sponge.proofs.SpongeLaws.{start_below}
 use Rattle.draws.specs.declared.DrawAnswer.{DrawAnswer}
 use Rattle.draws.specs.Answers.{draw_answer, draw_refusal, in_front, sample_indices, sampled_slice}
 use Rattle.draws.specs.Bound.{bound_refusal}
@@ -29,7 +29,7 @@ use Rattle.answers.specs.Drawn.{Drawn}
 pub seed-accepted : (words : List ℕ) {log2 : ℕ} → log2 < 32 → draw_refusal (seeded_by words) (2 ^ log2) ≡ 0
 unfolding seeded_by
 seed-accepted words {log2} h =
-    ap (λ (n : ℕ). first (n ∷ bound_refusal (2 ^ log2) ∷ [])) (below-accepted (seeded_by words).state (run-below (padded_steps words) (start VariableLength) (start-below VariableLength)))
+    ap (λ (n : ℕ). first (n ∷ bound_refusal (2 ^ log2) ∷ [])) (below_accepted (seeded_by words).state (run-below (padded_steps words) (start VariableLength) (start_below VariableLength)))
     ∙ ap (λ (n : ℕ). first (n ∷ [])) (bound-accepted (2 ^ log2) (record { k = log2; below = h; same = refl }))
 
 -- what a call answers that is refused by nothing but 6

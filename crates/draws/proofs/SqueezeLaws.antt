@@ -5,7 +5,7 @@ use Prim.Native.Nat.{ℕ, zero, suc}
 use lib.ListN.{replicate}
 use Rattle.rounds.specs.Field.{Below}
 use Rattle.refusals.proofs.UnlessLaws.{unless-granted}
-use Rattle.refusals.proofs.JudgeLaws.{accepted-below, below-accepted}
+use Rattle.refusals.proofs.JudgeLaws.{accepted_below, below_accepted}
 use Rattle.sponge.specs.declared.by_value.SqueezeAnswer.{SqueezeAnswer}
 use Rattle.sponge.specs.declared.Tip5.{Tip5}
 use Rattle.sponge.specs.Answers.{squeeze, squeeze_refusal}
@@ -22,10 +22,10 @@ squeezed-sponge s e none = ap (λ (a : SqueezeAnswer). a.sponge) e ∙ unless-gr
 
 -- its ten words are below P
 pub ten-below : (s : Tip5) → squeeze_refusal s ≡ 0 → Below (rate s)
-ten-below s none = rate-below s (accepted-below s.state none)
+ten-below s none = rate-below s (accepted_below s.state none)
 
 -- any number of squeezes is accepted where one is
 pub squeezes-accepted : (n : ℕ) (s : Tip5) → squeeze_refusal s ≡ 0 → Accepted (replicate n Step.squeeze) s
 unfolding after
 squeezes-accepted zero s none = tt
-squeezes-accepted (suc n) s none = (none, squeezes-accepted n (squeezed s) (below-accepted (squeezed s).state (squeezed-below s)))
+squeezes-accepted (suc n) s none = (none, squeezes-accepted n (squeezed s) (below_accepted (squeezed s).state (squeezed-below s)))

@@ -32,8 +32,8 @@ below-all_below [] h = refl
 below-all_below (w ∷ s) h = rw (lt-ltb w P (h 0)) (below-all_below s (λ k. h (suc k)))
 
 -- then nothing is refused
-pub below-accepted : (s : List ℕ) → Below s → word_refusal s ≡ none
-below-accepted s h = rw (below-all_below s h)
+pub below_accepted : (s : List ℕ) → Below s → word_refusal s ≡ none
+below_accepted s h = rw (below-all_below s h)
 
 -- a refusal is not none
 pub refused-not-none : {refusal : Refusal} → Err refusal ≡ none → ⊥
@@ -50,8 +50,8 @@ refused true refusal h = absurd (h refl)
 refused false refusal h = refl
 
 -- and where nothing is refused every word is below P
-pub accepted-below : (s : List ℕ) → word_refusal s ≡ none → Below s
-accepted-below s e = all_below-below s (rw (passed (all_below s) BadWord e) tt)
+pub accepted_below : (s : List ℕ) → word_refusal s ≡ none → Below s
+accepted_below s e = all_below-below s (rw (passed (all_below s) BadWord e) tt)
 
 -- the same of each element that a list has
 
@@ -68,7 +68,7 @@ below-all (w ∷ s) h (suc k) d l = below-all s (λ i. h (suc i)) k d (omega ari
 -- what code answers that tested each element
 
 pub accepted_all : (s : List ℕ) → All (λ w. w < P) s → none ≡ word_refusal s
-accepted_all s h = sym (below-accepted s (all-below s h))
+accepted_all s h = sym (below_accepted s (all-below s h))
 
 pub refused_some : (s : List ℕ) → (All (λ w. w < P) s → ⊥) → Err BadWord ≡ word_refusal s
 refused_some s h = sym (refused (all_below s) BadWord (λ e. h (below-all s (all_below-below s (rw e tt)))))

@@ -1,5 +1,5 @@
 // Judging words, lengths and rounds: each answers its refusal, and nothing where there is none.
-ghost use Rattle.std.specs.Prelude.{◌≡◌, ◌↔◌, ◌<◌, IsTrue, OnOk};
+ghost use Rattle.std.specs.Prelude.{◌≡◌, ◌↔◌, ◌<◌, IsTrue, OnOk, length};
 ghost use Rattle.std.specs.List.{All};
 ghost use Rattle.numbers.specs.Modulus.{P};
 ghost use Rattle.rounds.specs.Field.{Below};
@@ -15,8 +15,8 @@ fn are_below(words: &[u64]) -> bool
     words.iter().all(|&word| word < P)
 }
 
-#[tactic(auto, using(crate::proofs::JudgeLaws::accepted_all, crate::proofs::JudgeLaws::refused_some))]
 /// `BadWord` where a word of the slice is P or more.
+#[tactic(auto, using(crate::proofs::JudgeLaws::accepted_all, crate::proofs::JudgeLaws::refused_some))]
 pub fn judge_words(words: &[u64]) -> Result<(), Refusal>
     ensures value { result ≡ word_refusal words.now }
     ensures below { OnOk result (Below words.now) }
@@ -30,7 +30,8 @@ pub fn judge_words(words: &[u64]) -> Result<(), Refusal>
 
 /// `WrongLength` where there are not as many words as wanted.
 pub fn judge_length(wanted: usize, words: &[u64]) -> Result<(), Refusal>
-    ensures { result ≡ length_refusal wanted words.now }
+    ensures value { result ≡ length_refusal wanted words.now }
+    ensures long { OnOk result (length words.now ≡ wanted) }
 {
     if words.len() == wanted {
         Ok(())

@@ -11,7 +11,7 @@ use lib.ListN.{length}
 use Rattle.numbers.proofs.Tests.{passed}
 use Rattle.refusals.specs.Judge.{length_refusal, word_refusal}
 use Rattle.refusals.proofs.RefusalLaws.{accepted-length, none-first}
-use Rattle.refusals.proofs.JudgeLaws.{accepted-below}
+use Rattle.refusals.proofs.JudgeLaws.{accepted_below}
 use Rattle.rows.specs.declared.row.Shape.{Shape}
 use Rattle.rows.specs.Rows.{digest_count, rows_refusal, size_refusal, width_refusal}
 use Rattle.rows.specs.Table.{Table}
@@ -60,7 +60,7 @@ accepted-rows words shape room e =
       record {
         wide = accepted-width shape.width wide.0;
         size = eqb-true (length words) all (passed (eqb (length words) all) 6 long.0);
-        below = accepted-below words (none-first (word_refusal words) [] fits.1).0;
+        below = accepted_below words (none-first (word_refusal words) [] fits.1).0;
       },
       accepted-length (5 * digest_count shape.columns shape.rows) room fits.0,
     )

@@ -12,7 +12,7 @@ use Rattle.rounds.specs.Field.{raw_of}
 use Rattle.rounds.proofs.FieldLaws.{raw_of-below}
 use Rattle.rounds.proofs.RoundLaws.{tab-below}
 use Rattle.refusals.specs.Judge.{word_refusal}
-use Rattle.refusals.proofs.JudgeLaws.{below-accepted}
+use Rattle.refusals.proofs.JudgeLaws.{below_accepted}
 use Rattle.refusals.proofs.RefusalLaws.{none-refuses}
 use Rattle.sheet.specs.Sheet.{element_limit, field_refusals, header_of, refusals, sheet_refusal, value, value_refusal, words_of}
 
@@ -42,5 +42,5 @@ accepted sheet e =
 pub words-good : (n : ℕ) (sheet : List ℕ) → word_refusal (words_of n sheet) ≡ 0
 unfolding words_of
 words-good n sheet =
-    below-accepted (tab n 0 (λ i. raw_of (value sheet i)))
+    below_accepted (tab n 0 (λ i. raw_of (value sheet i)))
     (tab-below n 0 λ i. raw_of-below (value sheet i))

@@ -1,13 +1,13 @@
 -- Lists that code copies word by word: the first words of a list, and words pasted at the front, one list after another, and before
 -- ONE and zeros.
 -- Assumes nothing.
-use mathlib.Core.List.{List, ◌∷◌, ◌++◌, append-nil}
-use mathlib.Core.Path.{◌≡◌, refl, ap, ap₂, ◌∙◌}
+use mathlib.Core.List.{List, ◌∷◌, ◌++◌}
+use mathlib.Core.Path.{◌≡◌, refl, ap, ◌∙◌}
 use Prim.Native.Nat.{ℕ, zero, suc, ◌+◌, ◌-◌, ◌≤◌}
 use native.Mathlib.Nat.{suc-sub-suc, zero-add, zero-sub, sub-zero}
 use native.Mathlib.Omega.{arith}
-use lib.ListN.{drop, get_or, length, replicate, set, take, drop_of_length-le, length-append, length-drop}
-use lib.Seq.{get_or-take, length-take-le, paste, set_at, take_all, take_at, take-length}
+use lib.ListN.{drop, get_or, length, replicate, set, take}
+use lib.Seq.{get_or-take, length-take-le, paste, set_at, take-length}
 use Rattle.numbers.specs.Lists.{tab}
 use Rattle.numbers.proofs.Lists.{tab-unique}
 
@@ -23,20 +23,9 @@ part-of a n ws = ap (λ (k : ℕ). take k ws) e
     e : a + n - a ≡ n
     e = omega arith
 
-pub rest-of : (a : ℕ) (ws : List ℕ) → take (length ws - a) (drop a ws) ≡ drop a ws
-rest-of a ws = take_all (length ws - a) (drop a ws) (omega (arith, length-drop a ws))
-
 -- a part at the front
 pub paste-front : (ws part : List ℕ) → paste ws 0 part (length part) ≡ part ++ drop (length part) ws
 paste-front ws part = rw (zero-add, take-length)
-
--- a part that follows another and fills what is left
-pub paste-rest : (ws front part : List ℕ) {n m : ℕ} → length front ≡ n → length part ≡ m → length ws ≡ n + m
-    → paste (paste ws 0 front (length front)) n part (length part) ≡ front ++ part
-paste-rest ws front part {n} {m} en em e =
-    ap (λ (l : List ℕ). paste l n part (length part)) (paste-front ws front)
-    ∙ ap₂ ◌++◌ (ap₂ ◌++◌ (take_at front (drop (length front) ws) n en) (take-length part)) (drop_of_length-le (front ++ drop (length front) ws) {i = n + length part} (omega (arith, length-append front (drop (length front) ws), length-drop (length front) ws)))
-    ∙ append-nil (front ++ part)
 
 pub drop-replicate : (n m : ℕ) (w : ℕ) → drop n (replicate m w) ≡ replicate (m - n) w
 drop-replicate zero m w = rw sub-zero

@@ -11,13 +11,13 @@ use Rattle.rounds.specs.Round.{round, rounds}
 use Rattle.refusals.specs.Judge.{word_refusal}
 use Rattle.refusals.proofs.UnlessLaws.{unless-granted}
 use Rattle.refusals.proofs.RefusalLaws.{first-last, round-accepted}
-use Rattle.refusals.proofs.JudgeLaws.{below-accepted}
+use Rattle.refusals.proofs.JudgeLaws.{below_accepted}
 use Rattle.tip5.specs.Permutation.{one_round}
 use Rattle.states.specs.Entering.{entering}
 
 -- the state that a call for one round answers, where it is not refused
 pub round-granted : {i : ℕ} (s : List ℕ) → i < 5 → Below s → (one_round i s).state ≡ round i s
-round-granted s h b = unless-granted (round _ s) s (first-last (word_refusal s) (round-accepted h) ∙ below-accepted s b)
+round-granted s h b = unless-granted (round _ s) s (first-last (word_refusal s) (round-accepted h) ∙ below_accepted s b)
 
 -- what `entering` is in its three cases
 

@@ -14,7 +14,7 @@ use Rattle.sponge.specs.Sponge.{absorbed}
 use Rattle.sponge.proofs.BelowLaws.{drop-below, take-below}
 use Rattle.sponge.proofs.HistoryLaws.{run-padded-last, run-padded-more}
 use Rattle.sponge.proofs.PaddingLaws.{last_ten-below}
-use Rattle.sponge.proofs.SpongeLaws.{absorbed-below, start-below}
+use Rattle.sponge.proofs.SpongeLaws.{absorbed_below, start_below}
 use Rattle.rows.specs.Table.{row_in}
 use Rattle.rows.proofs.PasteLaws.{paste-ten}
 use Rattle.rows.proofs.TableLaws.{rest-length, row_below, row_fits}
@@ -27,7 +27,7 @@ pub init-sponge-requires : goal.init-sponge-requires
 init-sponge-requires c = tt
 
 pub loop-at-init : goal.loop-at-init
-loop-at-init c = (omega arith, subst⁻¹ (λ (s : Tip5). Below s.state) c.init-sponge.ensures (start-below VariableLength), refl)
+loop-at-init c = (omega arith, subst⁻¹ (λ (s : Tip5). Below s.state) c.init-sponge.ensures (start_below VariableLength), refl)
 
 pub overflow_sub-length : goal.overflow_sub-length
 overflow_sub-length c = c.loop-at.invariant.0
@@ -57,7 +57,7 @@ loop-at-preserved c =
     let ten = c.row_part-ten.ensures ∙ paste-ten left in
     let next : c.absorbed-next.result ≡ absorbed (take 10 left) l.sponge = c.absorbed-next.ensures ∙ ap (λ (ten : List ℕ). absorbed ten l.sponge) ten in (
       omega arith,
-      subst⁻¹ (λ (t : Tip5). Below t.state) next (absorbed-below (take 10 left) l.sponge),
+      subst⁻¹ (λ (t : Tip5). Below t.state) next (absorbed_below (take 10 left) l.sponge),
       l.invariant.2
           ∙ run-padded-more left l.sponge (omega (arith, rest-length c.requires.table c.args.row c.requires.in_table l.at))
           ∙ ap₂ (λ (ws : List ℕ) (t : Tip5). run (padded_steps ws) t) (drop-drop 10 l.at whole) (sym next),

@@ -5,7 +5,7 @@ use mathlib.Core.Path.{sym, ◌∙◌}
 use Prim.Native.Nat.{ℕ}
 use lib.ListN.{replicate}
 use Rattle.refusals.proofs.UnlessLaws.{answer-granted, answer-refused}
-use Rattle.refusals.proofs.JudgeLaws.{accepted-below}
+use Rattle.refusals.proofs.JudgeLaws.{accepted_below}
 use Rattle.states.specs.declared.trace.TraceAnswer.{TraceAnswer}
 use Rattle.states.specs.Trace.{six_states}
 use Rattle.states.proofs.trace.trace.Goals as goal
@@ -19,7 +19,7 @@ returns-then-refusal-ne-NONE c =
     answer-refused trace_answer (six_states s) (replicate 96 0) c.judge_words-refusal.ensures c.if-refusal-ne-NONE.true
 
 pub six_states-requires : goal.six_states-requires
-six_states-requires c = accepted-below c.args.state (sym c.judge_words-refusal.ensures ∙ c.if-refusal-ne-NONE.false)
+six_states-requires c = accepted_below c.args.state (sym c.judge_words-refusal.ensures ∙ c.if-refusal-ne-NONE.false)
 
 pub returns : goal.returns
 returns c =
