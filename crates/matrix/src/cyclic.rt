@@ -3,8 +3,8 @@ ghost use Rattle.std.specs.Prelude.{◌≡◌, ◌^◌};
 ghost use Rattle.numbers.specs.Linear.{times};
 ghost use Rattle.matrix.specs.Parts.{cyclic_matrix};
 
-// Answers node_152, 154, 156, 158, 153, 155, 157, 159. A pair is the sum of two products, a part a longer
-// sum; each stands inside nodes of the Rust function, and is named after the first node in it.
+// Answers node_152, 154, 156, 158, 153, 155, 157, 159. A pair is the sum of two products, a part a
+// longer sum; each stands inside nodes of the Rust function, and is named after the first in it.
 pub(crate) fn cyclic(sums: [u64; 8]) -> [u64; 8]
     ensures { result ≡ times (2 ^ 64) cyclic_matrix sums }
 {

@@ -1,5 +1,6 @@
-// The negacyclic half: eight differences to eight words, in two calls that share only their first
-// sums. Its matrix is the circulant's with the right half taken from the left, times 8.
+// The negacyclic half: eight differences to eight words. Its matrix is the circulant's with the right
+// half taken from the left, times 8. The two functions share only their first sums, and no product:
+// one for both would be the two, one after the other.
 ghost use Rattle.std.specs.Prelude.{◌≡◌, ◌^◌};
 ghost use Rattle.numbers.specs.Linear.{times};
 ghost use Rattle.matrix.specs.Parts.{even_matrix, odd_matrix};
