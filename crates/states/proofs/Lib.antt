@@ -1,3 +1,2 @@
 -- The laws of this crate's definitions.
-pub mod InPlaceLaws
 pub mod TraceLaws

@@ -36,6 +36,31 @@ pub fn array(comment: &str, name: &str, words: &[u64]) -> String {
     )
 }
 
+/// A tuple of more columns than this stands with each part on its own line.
+const TUPLE: usize = 60;
+
+/// A tuple as an entry of a table.
+pub fn tuple(parts: &[String]) -> String {
+    let line = parts.join(", ");
+    if line.len() <= TUPLE {
+        return format!("    ({line}),\n");
+    }
+    let parts: Vec<String> = parts
+        .iter()
+        .map(|part| format!("        {part},\n"))
+        .collect();
+    format!("    (\n{}    ),\n", parts.concat())
+}
+
+/// A table of entries of a type, with a comment above.
+pub fn table(comment: &str, name: &str, entry: &str, rows: &[String]) -> String {
+    let length = rows.len();
+    format!(
+        "// {comment}\npub const {name}: [{entry}; {length}] = [\n{}];\n",
+        rows.concat()
+    )
+}
+
 /// The words in indented lines of this width, or longer where a word alone is.
 fn lines(words: &[String], width: usize) -> String {
     let mut text = String::new();
