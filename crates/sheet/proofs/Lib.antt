@@ -1,5 +1,3 @@
 -- The laws of this crate's definitions.
-pub mod Accepted
 pub mod BitLaws
-pub mod JudgeLaws
-pub mod JudgedLaws
+pub mod ElementLaws

@@ -1,73 +1,64 @@
-// Judging a sheet: the refusals in their order, but for 6, which only a draw can meet.
-ghost use Rattle.std.specs.Prelude.{◌≡◌, ◌+◌, ◌*◌, ◌^◌, ◌<◌, drop, length};
-ghost use Rattle.refusals.specs.Judge.{first};
-ghost use Rattle.sheet.specs.Sheet.{field_refusal, judge_sheet, refusals, value_refusal};
+// Judging a sheet: the refusals in their order, but for a spent allowance, which only a draw can meet.
+ghost use Rattle.std.specs.Prelude.{◌≡◌, ◌+◌, ◌*◌, ◌≤◌, ◌<◌, ◌^◌, OnOk, length};
+ghost use Rattle.sheet.specs.Sheet.{element_limit, field_refusal, judge_sheet, sheet_length_refusal, value_refusal};
 
 use crate::elements;
-use crate::header::{Header, HeaderAnswer, read_header, refused};
+use crate::header::{Header, read_header};
+use refusals::Refusal;
 use tip5::b_field_element::BFieldElement;
 
 // The most elements that a sheet may have.
 const ELEMENT_LIMIT: usize = 4096;
 
-// Refusal 5 for a header that no sheet has. A digest sheet's log2, index and allowance fields are
+// `BadHeader` for a header that no sheet has. A digest sheet's log2, index and allowance fields are
 // not judged.
-fn judge_fields(h: Header) -> u8
-    ensures { result ≡ field_refusal h }
+fn judge_fields(h: Header) -> Result<(), Refusal>
+    ensures value { result ≡ field_refusal h }
+    ensures limit { OnOk result (h.elements ≤ element_limit) }
 {
-    if h.version != 1 {
-        return refusals::BAD_HEADER;
+    if h.version == 1 && h.job < 2 && h.elements <= ELEMENT_LIMIT {
+        Ok(())
+    } else {
+        Err(Refusal::BadHeader)
     }
-    if 2 <= h.job {
-        return refusals::BAD_HEADER;
-    }
-    if ELEMENT_LIMIT < h.elements {
-        return refusals::BAD_HEADER;
-    }
-    refusals::NONE
 }
 
-// Refusal 1 where one of the first n values is P or more.
-fn judge_values(sheet: &[u8], n: usize) -> u8
+// `WrongSheetLength` for a sheet that is not as long as its number of elements says.
+fn judge_length(sheet: &[u8], n: usize) -> Result<(), Refusal>
+    requires { n ≤ element_limit }
+    ensures value { result ≡ sheet_length_refusal n sheet.now }
+    ensures exact { OnOk result (length sheet.now ≡ 6 + 8 * n) }
+{
+    if sheet.len() == 6 + 8 * n {
+        Ok(())
+    } else {
+        Err(Refusal::WrongSheetLength)
+    }
+}
+
+#[tactic(auto, using(crate::proofs::ElementLaws::good_value), unfolding(crate::specs::Sheet::values_of))]
+// `BadWord` where one of the first n values is P or more.
+fn judge_values(sheet: &[u8], n: usize) -> Result<(), Refusal>
     requires { length sheet.now ≡ 6 + 8 * n }
     ensures { result ≡ value_refusal n sheet.now }
 {
-    let mut i = 0;
-    while i < n {
+    for i in 0..n {
         if BFieldElement::P <= elements::value(sheet, i) {
-            return refusals::BAD_WORD;
+            return Err(Refusal::BadWord);
         }
-        i += 1;
     }
-    refusals::NONE
+    Ok(())
 }
 
-// The first refusal of a sheet with the header h: that of its fields, of its length, of its values.
-fn judge_past_header(sheet: &[u8], h: Header) -> u8
-    requires { h.elements < 2 ^ 13 }
-    ensures { result ≡ first (drop 1 (refusals h sheet.now)) }
-{
-    let fields = judge_fields(h);
-    if fields != refusals::NONE {
-        return fields;
-    }
-    if sheet.len() != 6 + 8 * h.elements {
-        return refusals::WRONG_SHEET_LENGTH;
-    }
-    judge_values(sheet, h.elements)
-}
-
-// The header of an accepted sheet, or the first refusal.
-pub fn judge_sheet(sheet: &[u8]) -> HeaderAnswer
+/// The header of an accepted sheet. Refused, in this order: `WrongSheetLength` for a sheet with no header, `BadHeader`
+/// for another version or job or too many elements, `WrongSheetLength` for another length than the header says, `BadWord`
+/// for a value that is P or more.
+pub fn judge_sheet(sheet: &[u8]) -> Result<Header, Refusal>
     ensures { result ≡ judge_sheet sheet.now }
 {
-    let read = read_header(sheet);
-    if read.refusal != refusals::NONE {
-        return read;
-    }
-    let found = judge_past_header(sheet, read.header);
-    if found != refusals::NONE {
-        return refused(found);
-    }
-    read
+    let header = read_header(sheet)?;
+    judge_fields(header)?;
+    judge_length(sheet, header.elements)?;
+    judge_values(sheet, header.elements)?;
+    Ok(header)
 }

