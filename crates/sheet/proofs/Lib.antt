@@ -1,3 +1,4 @@
 -- The laws of this crate's definitions.
 pub mod BitLaws
 pub mod ElementLaws
+pub mod JudgedLaws

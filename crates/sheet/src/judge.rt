@@ -1,10 +1,12 @@
 // Judging a sheet: the refusals in their order, but for a spent allowance, which only a draw can meet.
-ghost use Rattle.std.specs.Prelude.{◌≡◌, ◌+◌, ◌*◌, ◌≤◌, ◌<◌, ◌^◌, OnOk, length};
-ghost use Rattle.sheet.specs.Sheet.{element_limit, field_refusal, judge_sheet, sheet_length_refusal, value_refusal};
+ghost use Rattle.std.specs.Prelude.{◌≡◌, ◌+◌, ◌*◌, ◌≤◌, List, ℕ, length};
+ghost use Rattle.refusals.specs.Judge.{granted};
+ghost use Rattle.sheet.specs.Sheet.{element_limit, elements_in_front, field_refusal, header_of, judge_sheet, sheet_refusal, value_refusal};
 
 use crate::elements;
 use crate::header::{Header, read_header};
 use refusals::Refusal;
+use std::marker::Model;
 use tip5::b_field_element::BFieldElement;
 
 // The most elements that a sheet may have.
@@ -13,8 +15,7 @@ const ELEMENT_LIMIT: usize = 4096;
 // `BadHeader` for a header that no sheet has. A digest sheet's log2, index and allowance fields are
 // not judged.
 fn judge_fields(h: Header) -> Result<(), Refusal>
-    ensures value { result ≡ field_refusal h }
-    ensures limit { OnOk result (h.elements ≤ element_limit) }
+    ensures { result ≡ field_refusal h }
 {
     if h.version == 1 && h.job < 2 && h.elements <= ELEMENT_LIMIT {
         Ok(())
@@ -23,31 +24,64 @@ fn judge_fields(h: Header) -> Result<(), Refusal>
     }
 }
 
-// `WrongSheetLength` for a sheet that is not as long as its number of elements says.
-fn judge_length(sheet: &[u8], n: usize) -> Result<(), Refusal>
-    requires { n ≤ element_limit }
-    ensures value { result ≡ sheet_length_refusal n sheet.now }
-    ensures exact { OnOk result (length sheet.now ≡ 6 + 8 * n) }
-{
-    if sheet.len() == 6 + 8 * n {
-        Ok(())
-    } else {
-        Err(Refusal::WrongSheetLength)
-    }
+// A sheet that is as long as its header says: its bytes and that header. In clauses it is its bytes.
+#[derive(Drop)]
+pub(crate) struct Sheet<'a> {
+    bytes: &'a [u8],
+    header: Header,
 }
 
-#[tactic(auto, using(crate::proofs::ElementLaws::good_value), unfolding(crate::specs::Sheet::values_of))]
-// `BadWord` where one of the first n values is P or more.
-fn judge_values(sheet: &[u8], n: usize) -> Result<(), Refusal>
-    requires { length sheet.now ≡ 6 + 8 * n }
-    ensures { result ≡ value_refusal n sheet.now }
-{
-    for i in 0..n {
-        if BFieldElement::P <= elements::value(sheet, i) {
-            return Err(Refusal::BadWord);
+impl<'a> Model for Sheet<'a> {
+    ghost Value = { List ℕ };
+
+    ghost view = { λ s. s.bytes.now };
+
+    ghost invariant = { λ s. (s.header ≡ header_of s.bytes.now) × (s.header.elements ≤ element_limit) × (length s.bytes.now ≡ 6 + 8 * s.header.elements) };
+}
+
+impl<'a> Sheet<'a> {
+    // An accepted sheet, or the first refusal.
+    pub(crate) fn judged(bytes: &'a [u8]) -> Result<Sheet<'a>, Refusal>
+        ensures { result ≡ granted (sheet_refusal bytes.now) bytes.now }
+    {
+        let header = read_header(bytes)?;
+        judge_fields(header)?;
+        if bytes.len() != 6 + 8 * header.elements {
+            return Err(Refusal::WrongSheetLength);
+        }
+        let sheet = Sheet { bytes, header };
+        sheet.judge_values()?;
+        Ok(sheet)
+    }
+
+    #[tactic(auto, using(crate::proofs::ElementLaws::good_value), unfolding(crate::specs::Sheet::values_of))]
+    // `BadWord` where a value is P or more.
+    fn judge_values(&self) -> Result<(), Refusal>
+        ensures { result ≡ value_refusal (header_of self.now).elements self.now }
+    {
+        for i in 0..self.header.elements {
+            if BFieldElement::P <= elements::value(self.bytes, i) {
+                return Err(Refusal::BadWord);
+            }
+        }
+        Ok(())
+    }
+
+    pub(crate) fn header(&self) -> Header
+        ensures { result ≡ header_of self.now }
+    {
+        self.header
+    }
+
+    #[tactic(auto, using(crate::proofs::ElementLaws::one_word), unfolding(crate::specs::Sheet::words_of))]
+    // The raw words of the elements, at the front of an array.
+    pub(crate) fn put_words(&self, words: &mut [u64; 8192])
+        ensures { words.new ≡ elements_in_front self.now words.old }
+    {
+        for i in 0..self.header.elements {
+            words[i] = elements::word(self.bytes, i);
         }
     }
-    Ok(())
 }
 
 /// The header of an accepted sheet. Refused, in this order: `WrongSheetLength` for a sheet with no header, `BadHeader`
@@ -56,9 +90,6 @@ fn judge_values(sheet: &[u8], n: usize) -> Result<(), Refusal>
 pub fn judge_sheet(sheet: &[u8]) -> Result<Header, Refusal>
     ensures { result ≡ judge_sheet sheet.now }
 {
-    let header = read_header(sheet)?;
-    judge_fields(header)?;
-    judge_length(sheet, header.elements)?;
-    judge_values(sheet, header.elements)?;
-    Ok(header)
+    let sheet = Sheet::judged(sheet)?;
+    Ok(sheet.header())
 }

@@ -1,0 +1,60 @@
+-- What a caller knows of a sheet that is accepted: its header and its words.
+-- Assumes nothing.
+use mathlib.Core.List.{List, ◌++◌}
+use mathlib.Core.Path.{◌≡◌, refl, ap, subst, sym, ◌∙◌}
+use Prim.Native.Nat.{ℕ, ◌≤◌, ◌<◌}
+use native.Mathlib.Nat.{le_of_suc-le-suc}
+use lib.ListN.{drop, take}
+use lib.Seq.{take_at}
+use Rattle.std.specs.Prelude.{Ok, Err, IfOk, Result, T, is_ok}
+use Rattle.numbers.proofs.Lists.{length-tab}
+use Rattle.rounds.specs.Field.{raw_of}
+use Rattle.rounds.proofs.FieldLaws.{raw_of-below}
+use Rattle.rounds.proofs.RoundLaws.{tab-below}
+use Rattle.refusals.specs.declared.refusal.Refusal.{Refusal}
+use Rattle.refusals.specs.Judge.{Judgement, granted, none, unless, word_refusal}
+use Rattle.refusals.proofs.JudgeLaws.{below-accepted}
+use Rattle.sheet.specs.declared.header.Header.{Header}
+use Rattle.sheet.specs.Sheet.{elements_in_front, header_of, judge_sheet, read_words, sheet_refusal, value, words_of}
+use Rattle.sheet.proofs.BitLaws.{field-below}
+
+-- an answer is granted where nothing is refused, and it is that answer
+granted-ok : {A : Type 0} (j : Judgement) (a : A) {b : A} → Ok b ≡ granted j a → (j ≡ none) × (b ≡ a)
+granted-ok {A} (Ok done) a {b} e = (refl, subst (λ (r : Result A Refusal). IfOk r (λ v. b ≡ v)) e refl)
+granted-ok {A} (Err refusal) a e = absurd (subst (λ (r : Result A Refusal). T (is_ok r)) e tt)
+
+-- an accepted sheet and its header
+
+module _ (sheet : List ℕ) {header : Header} (judged : Ok header ≡ judge_sheet sheet) where
+  pub judged_good : sheet_refusal sheet ≡ none
+  judged_good = (granted-ok (sheet_refusal sheet) (header_of sheet) judged).0
+
+  pub judged_header : header ≡ header_of sheet
+  judged_header = (granted-ok (sheet_refusal sheet) (header_of sheet) judged).1
+
+  -- its fields are within their bits
+  pub judged_fields : (header.log2 < 32) × (header.indices ≤ 4095)
+  judged_fields = rw judged_header (field-below (take 6 sheet) 6 5, le_of_suc-le-suc (field-below (take 6 sheet) 24 12))
+
+  -- the words that are handed out
+
+  pub words_read : (before : List ℕ) → read_words sheet before ≡ words_of header.elements sheet ++ drop header.elements before
+  unfolding read_words
+  words_read before =
+      ap (λ (j : Judgement). unless j (elements_in_front sheet before) before) judged_good
+      ∙ ap (λ (h : Header). words_of h.elements sheet ++ drop h.elements before) (sym judged_header)
+
+  -- stand in front
+  pub words_in_front : (before : List ℕ) {now : List ℕ} → now ≡ read_words sheet before → take header.elements now ≡ words_of header.elements sheet
+  unfolding words_of
+  words_in_front before e =
+      ap (take header.elements) (e ∙ words_read before)
+      ∙ take_at (words_of header.elements sheet) (drop header.elements before) header.elements
+      (length-tab header.elements 0 (λ i. raw_of (value sheet i)))
+
+  -- and are accepted, as raw words of values are below P
+  pub words_accepted : (before : List ℕ) {now : List ℕ} → now ≡ read_words sheet before → word_refusal (take header.elements now) ≡ none
+  unfolding words_of
+  words_accepted before e =
+      ap word_refusal (words_in_front before e)
+      ∙ below-accepted (words_of header.elements sheet) (tab-below header.elements 0 λ i. raw_of-below (value sheet i))
