@@ -1,5 +1,5 @@
 // The header of a sheet.
-ghost use Rattle.std.specs.Prelude.{◌≡◌, length};
+ghost use Rattle.std.specs.Prelude.{◌≡◌};
 ghost use Rattle.sheet.specs.Header.{header};
 ghost use Rattle.sheet.specs.Sheet.{read_header};
 
@@ -18,17 +18,19 @@ pub struct Header {
     pub allowance: u64,
 }
 
-// The fields of six bytes.
-fn fields(six: &[u8; 6]) -> Header
-    ensures { result ≡ header six.now }
-{
-    Header {
-        version: field(six, 0, 4) as u8,
-        job: field(six, 4, 2) as u8,
-        log2: field(six, 6, 5) as u32,
-        elements: field(six, 11, 13) as usize,
-        indices: field(six, 24, 12) as usize,
-        allowance: field(six, 36, 12),
+impl From<[u8; 6]> for Header {
+    ghost from_gives = { λ six h. h ≡ header six };
+
+    #[tactic(auto, unfolding(crate::specs::Bits::field))]
+    fn from(six: [u8; 6]) -> Header {
+        Header {
+            version: field(&six, 0, 4) as u8,
+            job: field(&six, 4, 2) as u8,
+            log2: field(&six, 6, 5) as u32,
+            elements: field(&six, 11, 13) as usize,
+            indices: field(&six, 24, 12) as usize,
+            allowance: field(&six, 36, 12),
+        }
     }
 }
 
@@ -37,5 +39,5 @@ pub fn read_header(sheet: &[u8]) -> Result<Header, Refusal>
     ensures { result ≡ read_header sheet.now }
 {
     let six = sheet.first_chunk::<6>().ok_or(Refusal::WrongSheetLength)?;
-    Ok(fields(six))
+    Ok(Header::from(*six))
 }

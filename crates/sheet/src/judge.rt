@@ -14,10 +14,10 @@ const ELEMENT_LIMIT: usize = 4096;
 
 // `BadHeader` for a header that no sheet has. A digest sheet's log2, index and allowance fields are
 // not judged.
-fn judge_fields(h: Header) -> Result<(), Refusal>
-    ensures { result ≡ field_refusal h }
+fn judge_fields(header: Header) -> Result<(), Refusal>
+    ensures { result ≡ field_refusal header }
 {
-    if h.version == 1 && h.job < 2 && h.elements <= ELEMENT_LIMIT {
+    if header.version == 1 && header.job < 2 && header.elements <= ELEMENT_LIMIT {
         Ok(())
     } else {
         Err(Refusal::BadHeader)
@@ -36,7 +36,10 @@ impl<'a> Model for Sheet<'a> {
 
     ghost view = { λ s. s.bytes.now };
 
-    ghost invariant = { λ s. (s.header ≡ header_of s.bytes.now) × (s.header.elements ≤ element_limit) × (length s.bytes.now ≡ 6 + 8 * s.header.elements) };
+    // As many elements stand behind the header as it says.
+    ghost invariant = { λ s. (s.header ≡ header_of s.bytes.now)
+        × (s.header.elements ≤ element_limit)
+        × (length s.bytes.now ≡ 6 + 8 * s.header.elements) };
 }
 
 impl<'a> Sheet<'a> {
@@ -67,6 +70,7 @@ impl<'a> Sheet<'a> {
         Ok(())
     }
 
+    // The header of the sheet.
     pub(crate) fn header(&self) -> Header
         ensures { result ≡ header_of self.now }
     {
