@@ -2,6 +2,7 @@
 #![tactic(auto)]
 
 pub mod b_field_element;
+mod element;
 mod field;
 pub mod inverse;
 mod inverse_layers;
