@@ -1,11 +1,16 @@
 // A raw word below P, and the field's operations on such words. Whatever makes an element proves the
 // bound, so nothing is judged here: the public calls judge the words that they are given.
-ghost use Rattle.std.specs.Prelude.{◌≡◌, ◌+◌, ◌-◌, ◌*◌, ◌%◌, ◌^◌, ◌<◌, ◌≤◌, ℕ};
+ghost use Rattle.std.specs.Prelude.{◌≡◌, ◌+◌, ◌-◌, ◌*◌, ◌%◌, ◌^◌, ◌<◌, ◌≤◌, ℕ, [], ◌∷◌};
 ghost use Rattle.numbers.specs.Congruence.{Cong};
 ghost use Rattle.numbers.specs.Modulus.{P};
 ghost use Rattle.rounds.specs.Field.{raw_of, value_of};
 ghost use Rattle.rounds.specs.Field as Field;
+ghost use Rattle.refusals.specs.Judge.{granted, word_refusal};
+ghost use Rattle.tip5.specs.Element.{element_of};
 
+use crate::b_field_element::BFieldElement;
+use refusals::Refusal;
+use refusals::judge::judge_words;
 use rounds::P;
 use std::marker::Model;
 use std::ops::{Add, Mul, Sub};
@@ -122,6 +127,26 @@ impl Mul for Element {
     }
 }
 
+// A word of P or more is refused.
+impl TryFrom<BFieldElement> for Element {
+    type Error = Refusal;
+
+    ghost try_from_gives = { λ a judged. judged ≡ granted (word_refusal (a.0 ∷ [])) a.0 };
+
+    fn try_from(a: BFieldElement) -> Result<Element, Refusal> {
+        judge_words(&[a.0])?;
+        Ok(Element(a.0))
+    }
+}
+
+impl From<Element> for BFieldElement {
+    ghost from_gives = { λ a element. element ≡ element_of a };
+
+    fn from(a: Element) -> BFieldElement {
+        BFieldElement(a.0)
+    }
+}
+
 impl Element {
     pub(crate) const ZERO: Element = Element(0);
 
@@ -157,4 +182,23 @@ impl Element {
         }
         found
     }
+}
+
+// A state whose words are judged.
+pub(crate) fn judged(words: [u64; 16]) -> Result<[Element; 16], Refusal>
+    ensures { result ≡ granted (word_refusal words) words }
+{
+    judge_words(&words)?;
+    let mut state = [Element::ZERO; 16];
+    for i in 0..16 {
+        state[i] = Element(words[i]);
+    }
+    Ok(state)
+}
+
+// The words of a state.
+pub(crate) fn raw_words(state: [Element; 16]) -> [u64; 16]
+    ensures { result ≡ state }
+{
+    state.map(|a| a.0)
 }

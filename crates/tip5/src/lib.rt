@@ -3,10 +3,10 @@
 
 pub mod b_field_element;
 mod element;
-mod field;
 pub mod inverse;
 mod inverse_layers;
 mod layers;
 pub mod permutation;
 mod seventh_root;
 mod stated;
+mod tables;

@@ -8,7 +8,7 @@ use native.Mathlib.Omega.{arith}
 use lib.Dec.{lit<}
 use Rattle.numbers.specs.Congruence.{Cong}
 use Rattle.numbers.specs.Modulus.{P}
-use Rattle.numbers.proofs.Congruence.{cong-eq, cong-mod, cong-mul, cong-pow, cong-refl, cong-trans}
+use Rattle.numbers.proofs.Congruence.{cong-eq, cong-mod, cong-mul, cong-pow, cong-trans}
 use Rattle.numbers.proofs.Power.{pow-square}
 use Rattle.rounds.specs.Field.{mul, power, value_of}
 use Rattle.rounds.proofs.FieldLaws.{mul-below, raw_of-cong, raw_of-value_of, value_of-mul}
@@ -51,10 +51,10 @@ pub loop-left-preserved : goal.loop-left-preserved
 loop-left-preserved c =
     let l = c.loop-left in
     let bit : (c.if-left-eq1.found < P) × Cong P (value_of c.if-left-eq1.found) (value_of l.found * value_of l.square ^ (l.left % 2)) =
-      elim c.if-left-eq1.branch [
-        | then-left-eq1 w ↦ odd l.found l.square l.left (w.found-is ∙ w.mul-found.ensures) w.if-left-eq1.true
-        | else-left-eq1 w ↦ even l.found l.square l.left w.found-is l.invariant.0 (omega (arith, w.if-left-eq1.false))
-      ] in
+    elim c.if-left-eq1.branch [
+      | then-left-eq1 w ↦ odd l.found l.square l.left (w.found-is ∙ w.mul-found.ensures) w.if-left-eq1.true
+      | else-left-eq1 w ↦ even l.found l.square l.left w.found-is l.invariant.0 (omega (arith, w.if-left-eq1.false))
+    ] in
     (bit.0, cong-trans (turn (value_of l.found) (value_of l.square) l.left bit.1 (product-value l.square l.square c.mul-square.ensures)) l.invariant.1)
 
 pub returns : goal.returns
