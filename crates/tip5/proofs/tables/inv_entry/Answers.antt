@@ -5,7 +5,7 @@ use Prim.Native.Nat.{ℕ}
 use lib.ListN.{get_or}
 use Rattle.rounds.specs.Constants.{inv_mds_column}
 use Rattle.rounds.specs.Field.{raw_of}
-use Rattle.tip5.proofs.LentTables.{entry-read}
+use Rattle.tip5.proofs.TableLaws.{entry-read}
 use Rattle.tip5.proofs.tables.inv_entry.Goals as goal
 
 pub returns : goal.returns

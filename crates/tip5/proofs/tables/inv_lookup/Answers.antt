@@ -3,7 +3,7 @@
 use mathlib.Core.Path.{refl, ap, ◌∙◌}
 use native.Mathlib.Omega.{arith}
 use Rattle.rounds.specs.Inverse.{inv_lookup_byte}
-use Rattle.tip5.proofs.LentTables.{entry-read}
+use Rattle.tip5.proofs.TableLaws.{entry-read}
 use Rattle.tip5.proofs.tables.inv_lookup.Goals as goal
 
 pub returns : goal.returns

@@ -3,7 +3,7 @@
 use mathlib.Core.Path.{refl, ap, ◌∙◌}
 use native.Mathlib.Omega.{arith}
 use Rattle.rounds.specs.Round.{lookup_byte}
-use Rattle.tip5.proofs.LentTables.{entry-read}
+use Rattle.tip5.proofs.TableLaws.{entry-read}
 use Rattle.tip5.proofs.tables.lookup.Goals as goal
 
 pub returns : goal.returns
