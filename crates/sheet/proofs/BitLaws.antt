@@ -24,9 +24,9 @@ number-append (x ∷ xs) ys =
     (rw (mul_assoc x (256 ^ length xs) (256 ^ length ys), add_assoc (x * (256 ^ length xs * 256 ^ length ys)) (number xs * 256 ^ length ys) (number ys)))
 
 -- eight bytes are what `from_be_bytes` makes of them
-pub number-word : (bytes : List ℕ) → length bytes ≡ 8 → from_be_bytes w64 bytes ≡ number bytes
+pub number_word : (bytes : List ℕ) → length bytes ≡ 8 → from_be_bytes w64 bytes ≡ number bytes
 unfolding number
-number-word bytes h = omega (arith, ap number (tab-get_or bytes h))
+number_word bytes h = omega (arith, ap number (tab-get_or bytes h))
 
 -- zeros are nothing
 number-zeros : (n k : ℕ) → number (take n (replicate k 0)) ≡ 0
@@ -40,7 +40,7 @@ pub number-padded : {m : ℕ} {copied : List ℕ} (bytes : List ℕ) → length 
     → from_be_bytes w64 (put_mid (8 - length bytes) m (replicate 8 0) copied) ≡ number bytes
 number-padded {m} {copied} bytes h e same =
     ap (λ (l : List ℕ). from_be_bytes w64 (zeros ++ l)) (ap₂ (λ (l r : List ℕ). l ++ r) same none ∙ append-nil bytes)
-    ∙ number-word (zeros ++ bytes) (omega (arith, length-append zeros bytes, length-take-le (8 - length bytes) eight (omega arith)))
+    ∙ number_word (zeros ++ bytes) (omega (arith, length-append zeros bytes, length-take-le (8 - length bytes) eight (omega arith)))
     ∙ number-append zeros bytes
     ∙ ap (λ (n : ℕ). n * 256 ^ length bytes + number bytes) (number-zeros (8 - length bytes) 8)
     ∙ omega arith

@@ -1,13 +1,14 @@
 // Judging a sheet: the refusals in their order, but for a spent allowance, which only a draw can meet.
-ghost use Rattle.std.specs.Prelude.{◌≡◌, ◌+◌, ◌*◌, ◌≤◌, List, ℕ, length};
+// What is read off its elements is read off a sheet that is as long as its header says.
+ghost use Rattle.std.specs.Prelude.{◌≡◌, ◌+◌, ◌*◌, ◌≤◌, ◌<◌, List, ℕ, length};
+ghost use Rattle.rounds.specs.Field.{raw_of};
 ghost use Rattle.refusals.specs.Judge.{granted};
-ghost use Rattle.sheet.specs.Sheet.{element_limit, elements_in_front, field_refusal, header_of, judge_sheet, sheet_refusal, value_refusal};
+ghost use Rattle.sheet.specs.Sheet.{element_limit, elements_in_front, field_refusal, header_of, judge_sheet, sheet_refusal, value, value_refusal};
 
-use crate::elements;
 use crate::header::{Header, read_header};
 use refusals::Refusal;
 use std::marker::Model;
-use tip5::b_field_element::BFieldElement;
+use tip5::b_field_element::{BFieldElement, Value};
 
 // The most elements that a sheet may have.
 const ELEMENT_LIMIT: usize = 4096;
@@ -63,11 +64,28 @@ impl<'a> Sheet<'a> {
         ensures { result ≡ value_refusal (header_of self.now).elements self.now }
     {
         for i in 0..self.header.elements {
-            if BFieldElement::P <= elements::value(self.bytes, i) {
+            if BFieldElement::P <= self.value(i) {
                 return Err(Refusal::BadWord);
             }
         }
         Ok(())
+    }
+
+    #[tactic(auto, using(crate::proofs::BitLaws::number_word), unfolding(crate::specs::Sheet::value))]
+    // The value of element i.
+    fn value(&self, i: usize) -> u64
+        requires { i < (header_of self.now).elements }
+        ensures { result ≡ value self.now i }
+    {
+        u64::from_be_bytes(*self.bytes[6 + 8 * i..].first_chunk::<8>().unwrap())
+    }
+
+    // The raw word of element i.
+    fn word(&self, i: usize) -> u64
+        requires { i < (header_of self.now).elements }
+        ensures { result ≡ raw_of (value self.now i) }
+    {
+        BFieldElement::new(Value(self.value(i))).0
     }
 
     // The header of the sheet.
@@ -83,7 +101,7 @@ impl<'a> Sheet<'a> {
         ensures { words.new ≡ elements_in_front self.now words.old }
     {
         for i in 0..self.header.elements {
-            words[i] = elements::word(self.bytes, i);
+            words[i] = self.word(i);
         }
     }
 }
