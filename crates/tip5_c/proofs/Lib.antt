@@ -2,3 +2,4 @@
 pub mod RoundTrip
 pub mod Undone
 pub mod WordLaws
+pub mod ExportLaws
