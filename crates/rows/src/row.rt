@@ -40,9 +40,9 @@ impl<'a> Table<'a> {
         requires { (row < self.now.rows) × (at + length room.old ≤ self.now.columns * self.now.width) }
         ensures { room.new ≡ take (length room.old) (drop at (row_in self.now row)) }
     {
-        for i in 0..room.len() {
+        for (i, word) in room.iter_mut().enumerate() {
             let k = at + i;
-            room[i] = self.entry_word(k / self.width, row, k % self.width);
+            *word = self.entry_word(k / self.width, row, k % self.width);
         }
     }
 
