@@ -1,4 +1,4 @@
--- Lists of one length, one after another: how long they are together, which word stands at a place, and one list more.
+-- Lists of one length, one after another: how long they are together, and which word stands at a place.
 -- Assumes nothing.
 use mathlib.Core.List.{List, ◌++◌}
 use mathlib.Core.Path.{◌≡◌, ap, sym, ◌∙◌}

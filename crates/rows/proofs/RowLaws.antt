@@ -50,25 +50,26 @@ module _ (t : Table) (r at : ℕ) (s : Tip5) (a : Absorbed t r at s) where
   left-below : (n : ℕ) → Below (take n (drop at (row_in t r)))
   left-below n = take-below n _ (drop-below at _ (row_below t r))
 
+  -- ten words and more are left
+  ten-left : r < t.rows → at + 10 ≤ t.columns * t.width → 10 ≤ length (drop at (row_in t r))
+  ten-left h l = omega (arith, length-drop at (row_in t r), row_length t r h)
+
   pub ten_granted : r < t.rows → at + 10 ≤ t.columns * t.width
       → absorb s (take 10 (drop at (row_in t r))) ≡ Ok (absorbed (take 10 (drop at (row_in t r))) s)
-  ten_granted h l =
-      let long : 10 ≤ length (drop at (row_in t r)) = omega (arith, length-drop at (row_in t r), row_length t r h) in
-      absorb-granted s _ (length-take-le 10 _ long) a.judged (left-below 10)
+  ten_granted h l = absorb-granted s _ (length-take-le 10 _ (ten-left h l)) a.judged (left-below 10)
 
   pub ten_more : r < t.rows → at + 10 ≤ t.columns * t.width → Absorbed t r (at + 10) (absorbed (take 10 (drop at (row_in t r))) s)
   ten_more h l =
-      let long : 10 ≤ length (drop at (row_in t r)) = omega (arith, length-drop at (row_in t r), row_length t r h) in
       record {
         judged = absorbed_below _ s;
-        same = a.same ∙ run-padded-more (drop at (row_in t r)) s long ∙ ap (λ (ws : List ℕ). run (padded_steps ws) (absorbed (take 10 (drop at (row_in t r))) s)) (drop-drop 10 at (row_in t r));
+        same = a.same
+            ∙ run-padded-more (drop at (row_in t r)) s (ten-left h l)
+            ∙ ap (λ (ws : List ℕ). run (padded_steps ws) (absorbed (take 10 (drop at (row_in t r))) s)) (drop-drop 10 at (row_in t r));
       }
 
-  -- the rest
+  -- the rest, n words from place k on, which is here
   pub rest-absorbed : (n k : ℕ) {rest : List ℕ} → r < t.rows → k ≡ at → at + n ≡ t.columns * t.width → rest ≡ take n (drop k (row_in t r))
       → leaving (pad_and_absorb_all s rest) s ≡ (none, run (padded_steps (row_in t r)) (start VariableLength))
   rest-absorbed n k h same all e =
       let left : take n (drop at (row_in t r)) ≡ drop at (row_in t r) = take_all n _ (omega (arith, length-drop at (row_in t r), row_length t r h)) in
-      rw (e, same) (ap (λ (answer : Result Tip5 Refusal). leaving answer s) (pad-granted s _ a.judged (left-below n))
-      ∙ ap (λ (ws : List ℕ). (none, run (padded_steps ws) s)) left
-      ∙ ap (λ (u : Tip5). (none, u)) (sym a.same))
+      rw (e, same, left) (ap (λ (answer : Result Tip5 Refusal). leaving answer s) (pad-granted s _ a.judged (drop-below at _ (row_below t r))) ∙ ap (λ (u : Tip5). (none, u)) (sym a.same))

@@ -78,7 +78,7 @@ module _ (t : Table) where
   row_below r = joined-below t.columns _ λ c. take-below t.width _ (drop-below (r * t.width) _ (column-below c))
 
   -- word k is part k % width of column k / width
-  pub row_at : (r : ℕ) → r < t.rows → (k : ℕ) → k < t.columns * t.width
+  row_at : (r : ℕ) → r < t.rows → (k : ℕ) → k < t.columns * t.width
       → get_or (row_in t r) k 0 ≡ get_or (entry_in t (k / t.width) r) (k % t.width) 0
   unfolding row
   row_at r h k l = joined_at _ t.width t.columns (λ c hc. entry_length c r hc h) k l

@@ -16,11 +16,11 @@ impl<'a> Table<'a> {
         requires { length digests.old ≡ 5 * digest_count self.now.columns self.now.rows }
         ensures { digests.new ≡ digests_in self.now (digest_count self.now.columns self.now.rows) }
     {
+        // By a range: of `chunks_mut` the library says how long the slice ends, and not what it ends as.
         for row in 0..digest_count(self.columns, self.rows) {
+            let sponge = self.row_sponge(row);
             let at = row * DIGEST_LENGTH;
-            digests[at..at + DIGEST_LENGTH].copy_from_slice(
-                &self.row_sponge(row).state[..DIGEST_LENGTH],
-            );
+            digests[at..at + DIGEST_LENGTH].copy_from_slice(&sponge.state[..DIGEST_LENGTH]);
         }
     }
 }
