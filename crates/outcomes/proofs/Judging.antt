@@ -7,10 +7,10 @@ use Rattle.outcomes.specs.Outcome.{OneAnswer}
 use Rattle.outcomes.proofs.Same.{same}
 
 pub judge-words-once : OneAnswer judge-words.Learnt
-judge-words-once κs a x y e f h k = same h k
+judge-words-once κs a x y e f h k = same h.value k.value
 
 pub judge-length-once : OneAnswer judge-length.Learnt
-judge-length-once κs a x y e f h k = same h k
+judge-length-once κs a x y e f h k = same h.value k.value
 
 pub judge-round-once : OneAnswer judge-round.Learnt
 judge-round-once κs a x y e f h k = same h k

@@ -5,9 +5,9 @@
 
 pub mod drawing;
 pub mod field;
+mod handing;
 pub mod hashing;
 pub mod in_place;
 pub mod inverse;
-mod lending;
 pub mod permutation;
 pub mod tables;

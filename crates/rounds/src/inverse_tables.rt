@@ -1,5 +1,4 @@
-// The tables of the way back. A constant array is laid out anew wherever it is named, so the
-// inverse permutation names each once and lends it to the rounds.
+// The tables of the way back, to be indexed where they are named, as those of tables.rt.
 
 // What each byte of words 0 to 3 is looked up in: LOOKUP_TABLE undone.
 pub const INV_LOOKUP_TABLE: [u8; 256] = [

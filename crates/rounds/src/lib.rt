@@ -1,4 +1,4 @@
-// The tables of Tip5, as the code is lent them, and the modulus of its field. What Tip5 is stands in specs/, and that the
+// The tables of Tip5, as the code reads them, and the modulus of its field. What Tip5 is stands in specs/, and that the
 // way back undoes it in proofs/.
 #![tactic(auto)]
 

@@ -1,5 +1,5 @@
-// The tables of Tip5. A constant array is laid out anew wherever it is named, so the permutation
-// names each once and lends it to the rounds.
+// The tables of Tip5. A constant array that is indexed where it is named is read-only data; one that is
+// bound to a variable, or gone over by a loop, is laid out on the stack. So the code reads entries in place.
 
 // What each byte of words 0 to 3 is looked up in.
 pub const LOOKUP_TABLE: [u8; 256] = [

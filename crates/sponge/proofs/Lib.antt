@@ -8,3 +8,4 @@ pub mod PaddingLaws
 pub mod SpongeLaws
 pub mod WalkBack
 pub mod TensLaws
+pub mod RecordLaws

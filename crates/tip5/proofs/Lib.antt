@@ -1,8 +1,8 @@
 -- The laws of this crate's definitions.
 pub mod HalvesLaws
-pub mod LentTables
 pub mod MendedLaws
 pub mod PowersLaws
 pub mod ReducedLaws
 pub mod RowLaws
 pub mod SboxLaws
+pub mod TableLaws

@@ -4,9 +4,8 @@ ghost use Rattle.std.specs.Prelude.{◌≡◌};
 ghost use Rattle.rounds.specs.Field.{raw_of};
 ghost use Rattle.tip5.specs.Element.{element_of, from_raw, raw_word, value, sum, difference, product, mod_pow};
 
-use crate::field;
+use crate::element::Element;
 use refusals::Refusal;
-use refusals::judge::judge_words;
 
 /// A plain value. Any u64 may stand here.
 #[derive(Clone, Copy, Debug, PartialEq, Eq, Hash)]
@@ -27,59 +26,56 @@ impl BFieldElement {
     pub fn new(value: Value) -> BFieldElement
         ensures { result ≡ element_of (raw_of value.0) }
     {
-        BFieldElement(field::raw_of(value.0))
+        Element::new(value.0).into()
     }
 
     /// The element whose raw word is given.
     pub fn from_raw_u64(word: u64) -> Result<BFieldElement, Refusal>
         ensures { result ≡ from_raw word }
     {
-        judge_words(&[word])?;
-        Ok(BFieldElement(word))
+        Ok(Element::try_from(BFieldElement(word))?.into())
     }
 
     /// The raw word of an element.
     pub fn raw_u64(self) -> Result<u64, Refusal>
         ensures { result ≡ raw_word self }
     {
-        judge_words(&[self.0])?;
-        Ok(self.0)
+        let element = Element::try_from(self)?;
+        Ok(element.0)
     }
 
     /// The value of an element, below P.
     pub fn value(self) -> Result<Value, Refusal>
         ensures { result ≡ value self }
     {
-        judge_words(&[self.0])?;
-        Ok(Value(field::value_of(self.0)))
+        Ok(Value(Element::try_from(self)?.value()))
     }
 
     pub fn add(self, rhs: BFieldElement) -> Result<BFieldElement, Refusal>
         ensures { result ≡ sum self rhs }
     {
-        judge_words(&[self.0, rhs.0])?;
-        Ok(BFieldElement(field::add(self.0, rhs.0)))
+        let sum = Element::try_from(self)? + Element::try_from(rhs)?;
+        Ok(sum.into())
     }
 
     pub fn sub(self, rhs: BFieldElement) -> Result<BFieldElement, Refusal>
         ensures { result ≡ difference self rhs }
     {
-        judge_words(&[self.0, rhs.0])?;
-        Ok(BFieldElement(field::sub(self.0, rhs.0)))
+        let difference = Element::try_from(self)? - Element::try_from(rhs)?;
+        Ok(difference.into())
     }
 
     pub fn mul(self, rhs: BFieldElement) -> Result<BFieldElement, Refusal>
         ensures { result ≡ product self rhs }
     {
-        judge_words(&[self.0, rhs.0])?;
-        Ok(BFieldElement(field::mul(self.0, rhs.0)))
+        let product = Element::try_from(self)? * Element::try_from(rhs)?;
+        Ok(product.into())
     }
 
     /// The element to the power of any exponent; to the power of 0 it is ONE.
     pub fn mod_pow(self, exponent: u64) -> Result<BFieldElement, Refusal>
         ensures { result ≡ mod_pow self exponent }
     {
-        judge_words(&[self.0])?;
-        Ok(BFieldElement(field::mod_pow(self.0, exponent)))
+        Ok(Element::try_from(self)?.mod_pow(exponent).into())
     }
 }

@@ -11,7 +11,7 @@ use Rattle.rounds.specs.Round.{permuted}
 use Rattle.rounds.specs.Field.{Below}
 use Rattle.rounds.proofs.RoundLaws.{inv_permuted-below, inv_permuted-length, permuted-below, permuted-length}
 use Rattle.rounds.proofs.RoundTrip.{inv_permuted-permuted, permuted-inv_permuted}
-use Rattle.refusals.specs.Judge.{word_refusal}
+use Rattle.refusals.specs.Judge.{none, word_refusal}
 use Rattle.refusals.proofs.UnlessLaws.{unless-granted}
 use Rattle.refusals.proofs.JudgeLaws.{accepted_below, below_accepted}
 use Rattle.refusals.proofs.RefusalLaws.{first-last, length-accepted}
@@ -41,7 +41,7 @@ module _
     (back : (s : List ℕ) → length s ≡ 16 → Below s → undo (move s) ≡ s)
   where
     -- a move that is undone on words is undone on their bytes
-    undone : (bytes : List ℕ) → length bytes ≡ 128 → ((i : ℕ) → get_or bytes i 0 < 256) → bytes_refusal bytes ≡ 0 → after undo (after move bytes) ≡ bytes
+    undone : (bytes : List ℕ) → length bytes ≡ 128 → ((i : ℕ) → get_or bytes i 0 < 256) → bytes_refusal bytes ≡ none → after undo (after move bytes) ≡ bytes
     undone bytes e b granted =
         let w = words_of bytes in
         let h : Below w = accepted_below w (sym (first-last (word_refusal (words_of bytes)) (length-accepted bytes e)) ∙ granted) in
@@ -50,8 +50,8 @@ module _
         ∙ ap bytes_of (back w (words_of-length bytes) h)
         ∙ bytes-of-words-of bytes e b
 
-pub inverse-undoes : (bytes : List ℕ) → length bytes ≡ 128 → ((i : ℕ) → get_or bytes i 0 < 256) → bytes_refusal bytes ≡ 0 → after inv_permuted (after permuted bytes) ≡ bytes
+pub inverse-undoes : (bytes : List ℕ) → length bytes ≡ 128 → ((i : ℕ) → get_or bytes i 0 < 256) → bytes_refusal bytes ≡ none → after inv_permuted (after permuted bytes) ≡ bytes
 inverse-undoes = undone permuted inv_permuted permuted-length permuted-below inv_permuted-permuted
 
-pub permutation-undoes : (bytes : List ℕ) → length bytes ≡ 128 → ((i : ℕ) → get_or bytes i 0 < 256) → bytes_refusal bytes ≡ 0 → after permuted (after inv_permuted bytes) ≡ bytes
+pub permutation-undoes : (bytes : List ℕ) → length bytes ≡ 128 → ((i : ℕ) → get_or bytes i 0 < 256) → bytes_refusal bytes ≡ none → after permuted (after inv_permuted bytes) ≡ bytes
 permutation-undoes = undone inv_permuted permuted inv_permuted-length inv_permuted-below permuted-inv_permuted

@@ -1,15 +1,8 @@
--- `replay::sixteen` meets its contract: the words before k are there.
+-- `sixteen`: each word is the one that the closure gives for its place.
 -- Assumes nothing.
-use mathlib.Core.Path.{refl}
-use native.Mathlib.Omega.{arith}
-use Rattle.numbers.proofs.Fill.{filled-all, filled-more, filled-none}
+use Rattle.std.proofs.Common.{rules, get_or, sym}
+use Rattle.numbers.proofs.Lists.{tab-unique}
 use Rattle.replay.proofs.sixteen.Goals as goal
 
-pub loop-k-init : goal.loop-k-init
-loop-k-init c = filled-none _ refl
-
-pub loop-k-preserved : goal.loop-k-preserved
-loop-k-preserved c = filled-more c.loop-k.invariant c.loop-k-test.true c.word.ensures
-
 pub returns : goal.returns
-returns c = filled-all c.loop-k.invariant (omega arith)
+returns c = sym (tab-unique c.from_fn.result (λ k. get_or c.args.words.now k 0) c.from_fn.ensures.items.long (λ k h. let given = c.from_fn.ensures.items.at k 0 h in search rules))

@@ -1,13 +1,21 @@
--- `inverse::inv_permuted` meets its contract: the code's tables are the definition's, by computation.
+-- `inverse::inv_permuted` meets its contract.
 -- Assumes nothing.
-use mathlib.Core.Path.{refl}
-use Rattle.rounds.specs.Constants.{inv_mds_column, round_constants}
-use Rattle.rounds.specs.Field.{raw_of}
-use Rattle.rounds.specs.Inverse.{inv_lookup_byte}
-use Rattle.rounds.specs.InverseTables.{inv_lookup_table, raw_inv_column}
-use Rattle.rounds.specs.Tables.{raw_constants}
+use mathlib.Core.Path.{◌≡◌, ap, ◌∙◌}
+use Prim.Native.Nat.{ℕ, suc, ◌-◌}
+use native.Mathlib.Omega.{arith}
+use Rattle.rounds.specs.Inverse.{inv_permuted, inv_rounds}
 use Rattle.tip5.proofs.inverse.inv_permuted.Goals as goal
 
-pub five_inv_rounds_with-requires-clause-tables : goal.five_inv_rounds_with-requires-clause-tables
-unfolding inv_lookup_table inv_lookup_byte raw_inv_column inv_mds_column raw_constants raw_of round_constants
-five_inv_rounds_with-requires-clause-tables c = (refl, refl, refl)
+pub loop-round-preserved : goal.loop-round-preserved
+unfolding inv_rounds
+loop-round-preserved c =
+    let l = c.loop-round in
+    let e : suc (l.round - 1) ≡ l.round = omega arith in
+    ap (inv_rounds (l.round - 1)) c.one_inv_round-state.ensures ∙ ap (λ (n : ℕ). inv_rounds n l.state) e ∙ l.invariant
+
+pub returns : goal.returns
+unfolding inv_permuted inv_rounds
+returns c =
+    let l = c.loop-round in
+    let none : 0 ≡ l.round = omega arith in
+    ap (λ (n : ℕ). inv_rounds n l.state) none ∙ l.invariant

@@ -1,13 +1,13 @@
--- `inverse::one_inv_round` meets its contract: the code's tables are the definition's, by computation.
+-- `inverse::one_inv_round` meets its contract.
 -- Assumes nothing.
-use mathlib.Core.Path.{refl}
-use Rattle.rounds.specs.Constants.{inv_mds_column, round_constants}
-use Rattle.rounds.specs.Field.{raw_of}
-use Rattle.rounds.specs.Inverse.{inv_lookup_byte}
-use Rattle.rounds.specs.InverseTables.{inv_lookup_table, raw_inv_column}
-use Rattle.rounds.specs.Tables.{raw_constants}
+use mathlib.Core.Path.{ap, ◌∙◌}
+use Rattle.rounds.specs.Constants.{inv_mds_column}
+use Rattle.rounds.specs.Inverse.{inv_round, inv_sbox_layer}
+use Rattle.rounds.specs.Round.{circulant}
 use Rattle.tip5.proofs.inverse.one_inv_round.Goals as goal
 
-pub inv_round_with-requires-clause-tables : goal.inv_round_with-requires-clause-tables
-unfolding inv_lookup_table inv_lookup_byte raw_inv_column inv_mds_column raw_constants raw_of round_constants
-inv_round_with-requires-clause-tables c = (refl, refl, refl)
+pub returns : goal.returns
+unfolding inv_round
+returns c =
+    c.inv_sbox_layer.ensures
+    ∙ ap inv_sbox_layer (c.inv_mds_matrix_mul-m.ensures ∙ ap (circulant inv_mds_column) c.subtract_constants-s.ensures)

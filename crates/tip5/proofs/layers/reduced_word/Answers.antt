@@ -1,8 +1,11 @@
 -- `layers::reduced_word` meets its contract.
 -- Assumes nothing.
 use mathlib.Core.Path.{◌≡◌, ap, ◌∙◌}
-use Prim.Native.Nat.{ℕ, ◌+◌, ◌*◌, ◌/◌, ◌%◌, ◌^◌}
+use Prim.Native.Nat.{ℕ, ◌+◌, ◌*◌, ◌/◌, ◌%◌, ◌^◌, ◌<◌}
 use native.Mathlib.Omega.{arith}
+use mathlib.Core.Bool.{Bool, true, false}
+use mir.Val.{bool_byte}
+use Rattle.std.specs.Bool.{FalseIff}
 use Rattle.tip5.specs.Reduced.{folded, reduced}
 use Rattle.tip5.proofs.layers.reduced_word.Goals as goal
 
@@ -21,8 +24,15 @@ two-folds l h ew eo ew' eo' =
     (λ i. ew' i + eo' i * 4294967295)
     ∙ ap folded (λ i. (ew ∙ lower-word l h) i + (ap (λ (n : ℕ). h / 2 ^ 36 + n) eo ∙ upper-word l h) i * 4294967295)
 
+-- an overflow flag, as a number, is the carry
+carry : (b : Bool) {n : ℕ} → FalseIff b (n < 2 ^ 64) → n < 2 ^ 65 → bool_byte b ≡ n / 2 ^ 64
+carry true h u = omega arith
+carry false h u = omega arith
+
 pub returns : goal.returns
 returns c =
-    two-folds (c.args.lo / 16) c.args.hi
-    c.overflowing_add-s.ensures.0 c.overflowing_add-s.ensures.1
-    c.overflowing_add-folded.ensures.0 c.overflowing_add-folded.ensures.1
+    let s = c.overflowing_add-low in
+    let f = c.overflowing_add-folded in
+    let o = c.from.ensures ∙ carry s.result.1 s.ensures.overflow (omega arith) in
+    let o' = c.from-2.ensures ∙ carry f.result.1 f.ensures.overflow (omega (arith, o, s.ensures.value)) in
+    two-folds (c.args.lo / 16) c.args.hi s.ensures.value o f.ensures.value o'

@@ -1,0 +1,2 @@
+-- What a view owes of its parts.
+pub mod ViewLaws
