@@ -2,4 +2,5 @@
 pub mod DigestLaws
 pub mod JoinedLaws
 pub mod RowLaws
+pub mod ShapeLaws
 pub mod TableLaws

@@ -30,7 +30,7 @@ view-word column width part r hp hr below = simp (lt-ltb _ _ hp, lt-ltb _ _ hr, 
 
 module _ (t : Table) where
   -- column c lies within the words
-  column_fits : (c : ℕ) → c < t.columns → c * (t.rows * t.width) + t.rows * t.width ≤ length t.words.now
+  pub column_fits : (c : ℕ) → c < t.columns → c * (t.rows * t.width) + t.rows * t.width ≤ length t.words.now
   column_fits c h = omega (arith, t.size, mul-le-mul_right (t.rows * t.width) h)
 
   -- a row is no longer than the words
@@ -48,7 +48,7 @@ module _ (t : Table) where
   column-below c = take-below (t.rows * t.width) _ (drop-below (c * (t.rows * t.width)) t.words.now t.below)
 
   -- an entry has as many words as the width says
-  entry_length : (c r : ℕ) → c < t.columns → r < t.rows → length (entry_in t c r) ≡ t.width
+  pub entry_length : (c r : ℕ) → c < t.columns → r < t.rows → length (entry_in t c r) ≡ t.width
   unfolding entry_of
   entry_length c r hc hr =
       part-length (r * t.width) t.width (column_in t c) (omega (arith, column-length c hc, mul-le-mul_right t.width hr))
@@ -78,15 +78,20 @@ module _ (t : Table) where
   row_below r = joined-below t.columns _ λ c. take-below t.width _ (drop-below (r * t.width) _ (column-below c))
 
   -- word k is part k % width of column k / width
-  row_at : (r : ℕ) → r < t.rows → (k : ℕ) → k < t.columns * t.width
+  pub row_at : (r : ℕ) → r < t.rows → (k : ℕ) → k < t.columns * t.width
       → get_or (row_in t r) k 0 ≡ get_or (entry_in t (k / t.width) r) (k % t.width) 0
   unfolding row
   row_at r h k l = joined_at _ t.width t.columns (λ c hc. entry_length c r hc h) k l
 
-  -- one word more of what is left of a row
+  -- the same in what is left of a row
+  pub rest_at : (r : ℕ) → r < t.rows → (at i : ℕ) → at + i < t.columns * t.width
+      → get_or (drop at (row_in t r)) i 0 ≡ get_or (entry_in t ((at + i) / t.width) r) ((at + i) % t.width) 0
+  rest_at r h at i l = get_or-drop at (row_in t r) i 0 ∙ row_at r h (at + i) l
+
+  -- one word more of it
   pub row_more : (r at i : ℕ) → r < t.rows → at + i < t.columns * t.width
       → take (i + 1) (drop at (row_in t r)) ≡ take i (drop at (row_in t r)) ++ get_or (entry_in t ((at + i) / t.width) r) ((at + i) % t.width) 0 ∷ []
   row_more r at i h l =
       ap (λ (n : ℕ). take n (drop at (row_in t r))) (add-one i)
       ∙ take-suc (drop at (row_in t r)) i 0 (omega (arith, length-drop at (row_in t r), row_length r h))
-      ∙ ap (λ (w : ℕ). take i (drop at (row_in t r)) ++ w ∷ []) (get_or-drop at (row_in t r) i 0 ∙ row_at r h (at + i) l)
+      ∙ ap (λ (w : ℕ). take i (drop at (row_in t r)) ++ w ∷ []) (rest_at r h at i l)

@@ -20,7 +20,7 @@ impl<'a> Table<'a> {
         &self.words[column * size..][..size]
     }
 
-    // A part of a column's entry, by a view of that column.
+    // A part of a column's entry, by a view of that column, which has it.
     #[tactic(auto, using(crate::proofs::TableLaws::view_part))]
     fn entry_word(&self, column: usize, row: usize, part: usize) -> u64
         requires { (column < self.now.columns) × (row < self.now.rows) × (part < self.now.width) }
@@ -46,7 +46,7 @@ impl<'a> Table<'a> {
         }
     }
 
-    // The sponge that absorbed a padded row.
+    // The sponge that absorbed a padded row: it and the words were judged, so that no call is refused.
     #[tactic(auto, using(crate::proofs::RowLaws::ten_granted, crate::proofs::RowLaws::ten_more, crate::proofs::TableLaws::row_fits))]
     pub(crate) fn row_sponge(&self, row: usize) -> Tip5
         requires { row < self.now.rows }
