@@ -64,7 +64,7 @@ module _ {bound allowance : ℕ} {start : Tip5} {before now : List ℕ} {found s
 
   -- after another squeeze, with its words put at the front of the rest of the slice
   pub drawing_turn : {r : Result (List ℕ) Refusal} {ten put : List ℕ} {n : ℕ} {next : Tip5} → Drawing bound allowance start before now found squeezes sponge
-      → found < length now → (squeezes ≡ allowance → ⊥)
+      → found < length now → squeezes < allowance
       → (r, next) ≡ leaving_ten (squeeze sponge) sponge → r ≡ Ok ten
       → (n, put) ≡ filled (from_words bound ten) (mid_of found (length now - found) now)
       → Drawing bound allowance start before (put_mid found (length now - found) now put) (found + n) (squeezes + 1) next
