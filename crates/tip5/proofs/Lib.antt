@@ -6,3 +6,4 @@ pub mod ReducedLaws
 pub mod RowLaws
 pub mod SboxLaws
 pub mod TableLaws
+pub mod ValueLaws
