@@ -1,23 +1,12 @@
 // Handing an answer to C: its refusal's number is returned, 0 for none, and what it holds goes to a place. Where the call is
 // refused the place stays as it was.
 ghost use Rattle.std.specs.Prelude.{◌≡◌};
-ghost use Rattle.refusals.specs.Number.{number};
 ghost use Rattle.probe.specs.Answers.{handed, sponge_of};
 ghost use Rattle.tip5.specs.Element.{element_of};
 
 use refusals::Refusal;
 use sponge::Tip5;
 use tip5::b_field_element::BFieldElement;
-
-// An answer that holds nothing.
-pub(crate) fn number(answer: Result<(), Refusal>) -> u32
-    ensures { result ≡ number answer }
-{
-    match answer {
-        Ok(()) => 0,
-        Err(refusal) => u32::from(u8::from(refusal)),
-    }
-}
 
 pub(crate) fn hand_out<T: Copy>(answer: Result<T, Refusal>, place: &mut T) -> u32
     ensures { (result, place.new) ≡ handed answer place.old }

@@ -4,7 +4,8 @@ ghost use Rattle.std.specs.Prelude.{◌≡◌, length, replicate};
 ghost use Rattle.sponge.specs.Answers.{absorb, pad_and_absorb_all, squeeze, step_back};
 ghost use Rattle.probe.specs.Answers.{handed, sponge_of};
 
-use crate::handing::{hand_out, number};
+use crate::handing::hand_out;
+use refusals::refusal::number;
 use sponge::Tip5;
 use sponge::step_back::StepKind;
 

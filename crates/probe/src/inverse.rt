@@ -5,7 +5,7 @@ ghost use Rattle.refusals.specs.Judge.{unless};
 ghost use Rattle.refusals.specs.Number.{number};
 ghost use Rattle.states.specs.InPlace.{round_slice_refusal, slice_refusal};
 
-use crate::handing::number;
+use refusals::refusal::number;
 use states::in_place;
 
 #[unsafe(no_mangle)]

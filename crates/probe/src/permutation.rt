@@ -11,7 +11,8 @@ ghost use Rattle.states.specs.InPlace.{round_slice_refusal, slice_refusal};
 ghost use Rattle.states.specs.Trace as Trace;
 ghost use Rattle.probe.specs.Answers.{handed};
 
-use crate::handing::{hand_out, number};
+use crate::handing::hand_out;
+use refusals::refusal::number;
 use states::{in_place, trace};
 
 #[unsafe(no_mangle)]

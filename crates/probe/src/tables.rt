@@ -5,9 +5,10 @@ ghost use Rattle.columns.specs.Column.{entry, row_count};
 ghost use Rattle.rows.specs.Rows.{hashed_rows, rows_refusal};
 ghost use Rattle.probe.specs.Answers.{handed};
 
-use crate::handing::{hand_out, number};
+use crate::handing::hand_out;
 use columns::Column;
 use refusals::Refusal;
+use refusals::refusal::number;
 use rows::hash_rows;
 
 #[unsafe(no_mangle)]

@@ -1,6 +1,6 @@
 // Why a call is refused. The numbers are those that C, the program's lines and the documents use; 0 stands for no refusal.
 ghost use Rattle.std.specs.Prelude.{◌≡◌};
-ghost use Rattle.refusals.specs.Number.{number_of};
+ghost use Rattle.refusals.specs.Number.{number, number_of};
 
 use std::error::Error;
 use thiserror::Error;
@@ -31,5 +31,15 @@ impl From<Refusal> for u8 {
 
     fn from(refusal: Refusal) -> u8 {
         refusal as u8
+    }
+}
+
+/// What C is answered: the number of a refusal, 0 where nothing is refused.
+pub fn number(judgement: Result<(), Refusal>) -> u32
+    ensures { result ≡ number judgement }
+{
+    match judgement {
+        Ok(()) => 0,
+        Err(refusal) => u32::from(u8::from(refusal)),
     }
 }

@@ -14,6 +14,7 @@ ghost use Rattle.tip5_c.specs.Export.{after, bytes_refusal};
 
 use crate::bytes::{put_words, words_of};
 use refusals::Refusal;
+use refusals::refusal::number;
 use tip5::inverse::inv_permutation;
 use tip5::permutation::permutation;
 
@@ -34,18 +35,7 @@ fn moved<F: FnOnce([u64; 16]) -> Result<[u64; 16], Refusal>>(
     Ok(())
 }
 
-// The number of a refusal, 0 for none.
-fn number(judgement: Result<(), Refusal>) -> u32
-    ensures { result ≡ number judgement }
-{
-    match judgement {
-        Ok(()) => 0,
-        Err(refusal) => u32::from(u8::from(refusal)),
-    }
-}
-
-/// The permutation of 128 bytes in place. 0, or the number of `WrongLength` where there are not 128,
-/// then of `BadWord`; refused bytes stay as they are.
+/// The permutation.
 pub fn tip5_permutation(state: &mut [u8]) -> u32
     ensures value { result ≡ number (bytes_refusal state.old) }
     ensures state_after { state.new ≡ after permuted state.old }
@@ -54,6 +44,7 @@ pub fn tip5_permutation(state: &mut [u8]) -> u32
 }
 
 /// The inverse permutation of 128 bytes in place, refused as `tip5_permutation` is.
+/// The inverse permutation.
 pub fn tip5_inverse_permutation(state: &mut [u8]) -> u32
     ensures value { result ≡ number (bytes_refusal state.old) }
     ensures state_after { state.new ≡ after inv_permuted state.old }
