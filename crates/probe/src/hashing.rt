@@ -14,7 +14,9 @@ use sponge::{Domain, Tip5, by_value};
 pub extern "C" fn probe_variable_length(state: &mut [u64; 16]) -> u32
     ensures { (result ≡ 0) × (sponge_of state.new ≡ start Domain.VariableLength) }
 {
-    *state = Tip5::init().state;
+    let sponge = Tip5::init();
+    let words = sponge.state;
+    *state = words;
     0
 }
 
@@ -22,7 +24,9 @@ pub extern "C" fn probe_variable_length(state: &mut [u64; 16]) -> u32
 pub extern "C" fn probe_fixed_length(state: &mut [u64; 16]) -> u32
     ensures { (result ≡ 0) × (sponge_of state.new ≡ start Domain.FixedLength) }
 {
-    *state = Tip5::new(Domain::FixedLength).state;
+    let sponge = Tip5::new(Domain::FixedLength);
+    let words = sponge.state;
+    *state = words;
     0
 }
 
@@ -35,7 +39,7 @@ pub extern "C" fn probe_absorb(state: &mut [u64; 16], ten: &[u64]) -> u32
 
 #[unsafe(no_mangle)]
 pub extern "C" fn probe_squeeze(state: &mut [u64; 16], ten: &mut [u64; 10]) -> u32
-    ensures { (result, sponge_of state.new, ten.new) ≡ handed (Answers.squeeze (sponge_of state.old)) (sponge_of state.old, replicate 10 0) }
+    ensures { (result, (sponge_of state.new, ten.new)) ≡ handed (Answers.squeeze (sponge_of state.old)) (sponge_of state.old, replicate 10 0) }
 {
     let sponge = Tip5 { state: *state };
     let mut given = (sponge, [0; 10]);

@@ -30,7 +30,7 @@ pub extern "C" fn probe_pad_and_absorb_all_in_place(state: &mut [u64; 16], input
 
 #[unsafe(no_mangle)]
 pub extern "C" fn probe_squeeze_in_place(state: &mut [u64; 16], ten: &mut [u64; 10]) -> u32
-    ensures { (result, sponge_of state.new, ten.new) ≡ handed (squeeze (sponge_of state.old)) (sponge_of state.old, replicate 10 0) }
+    ensures { (result, (sponge_of state.new, ten.new)) ≡ handed (squeeze (sponge_of state.old)) (sponge_of state.old, replicate 10 0) }
 {
     let mut sponge = Tip5 { state: *state };
     let answer = sponge.squeeze();

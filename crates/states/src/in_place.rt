@@ -15,7 +15,8 @@ use tip5::{inverse, permutation};
 // Four bodies and no function over the call by value: its contract, by what that call may answer,
 // would be longer than the two lines that the four share, and the rounds did not close over it.
 
-/// The permutation of a lent slice in place.
+/// The permutation of a lent slice in place. Refused are `WrongLength` where it is not sixteen words,
+/// then `BadWord`; a refused slice stays as it is.
 pub fn permute(state: &mut [u64]) -> Result<(), Refusal>
     ensures value { result ≡ slice_refusal state.old }
     ensures state_after { state.new ≡ unless (slice_refusal state.old) (permuted state.old) state.old }
@@ -25,7 +26,8 @@ pub fn permute(state: &mut [u64]) -> Result<(), Refusal>
     Ok(())
 }
 
-/// One round, 0 to 4, of a lent slice in place.
+/// One round of a lent slice in place. Refused are `NoSuchRound` where the round is not 0 to 4, then
+/// `WrongLength`, then `BadWord`; a refused slice stays as it is.
 pub fn permute_round(round: usize, state: &mut [u64]) -> Result<(), Refusal>
     ensures value { result ≡ round_slice_refusal round state.old }
     ensures state_after { state.new ≡ unless (round_slice_refusal round state.old) (Round.round round state.old) state.old }
@@ -36,7 +38,7 @@ pub fn permute_round(round: usize, state: &mut [u64]) -> Result<(), Refusal>
     Ok(())
 }
 
-/// The inverse permutation of a lent slice in place.
+/// The inverse permutation of a lent slice in place, refused as `permute` is.
 pub fn inv_permute(state: &mut [u64]) -> Result<(), Refusal>
     ensures value { result ≡ slice_refusal state.old }
     ensures state_after { state.new ≡ unless (slice_refusal state.old) (inv_permuted state.old) state.old }
@@ -46,7 +48,7 @@ pub fn inv_permute(state: &mut [u64]) -> Result<(), Refusal>
     Ok(())
 }
 
-/// One round, 0 to 4, undone in a lent slice.
+/// One round undone in a lent slice, refused as `permute_round` is.
 pub fn inv_permute_round(round: usize, state: &mut [u64]) -> Result<(), Refusal>
     ensures value { result ≡ round_slice_refusal round state.old }
     ensures state_after { state.new ≡ unless (round_slice_refusal round state.old) (Inverse.inv_round round state.old) state.old }

@@ -1,7 +1,6 @@
 // A raw word below P, and the field's operations on such words. Whatever makes an element proves the
 // bound, so nothing is judged here: the public calls judge the words that they are given.
-ghost use Rattle.std.specs.Prelude.{◌≡◌, ◌+◌, ◌-◌, ◌*◌, ◌%◌, ◌^◌, ◌<◌, ◌≤◌, ℕ, [], ◌∷◌};
-ghost use Rattle.numbers.specs.Congruence.{Cong};
+ghost use Rattle.std.specs.Prelude.{◌≡◌, ◌+◌, ◌-◌, ◌*◌, ◌%◌, ◌^◌, ◌<◌, ◌≤◌, [], ◌∷◌};
 ghost use Rattle.numbers.specs.Modulus.{P};
 ghost use Rattle.rounds.specs.Field.{raw_of, value_of};
 ghost use Rattle.rounds.specs.Field as Field;
@@ -37,6 +36,7 @@ impl Model for Element {
 }
 
 // a + b less P where the sum reaches P. The sum itself may not fit a word, and a may be P or more.
+#[tactic(auto, unfolding(rounds::specs::Field::add))]
 pub(crate) fn sum(a: u64, b: u64) -> Element
     requires { (b ≤ P) × (a + b < 2 * P) }
     ensures { result ≡ Field.add a b }
@@ -67,6 +67,7 @@ fn less(word: u64, h: u64) -> Element
 
 // What is congruent to upper * 2^64 + lower. With upper = h1 * 2^32 + h0 it folds by 2^96 = -1 and
 // 2^64 = 2^32 - 1, modulo P, to lower - h1 + h0 * (2^32 - 1).
+#[tactic(auto, unfolding(rounds::specs::Field::add))]
 fn folded(upper: u64, lower: u64) -> Element
     ensures { result ≡ (upper * 2 ^ 64 + lower) % P }
 {
@@ -77,6 +78,7 @@ fn folded(upper: u64, lower: u64) -> Element
 
 // The raw word of the product of any two words, a * b * 2^(-64): the product is folded, and so is
 // its product with the number that stands for 2^(-64).
+#[tactic(auto, unfolding(rounds::specs::Field::mul))]
 fn product(a: u64, b: u64) -> Element
     ensures { result ≡ Field.mul a b }
 {
@@ -106,6 +108,7 @@ impl Sub for Element {
     ghost sub_gives = { λ a b difference. difference ≡ Field.sub a b };
 
     // P more where the difference would be below 0.
+    #[tactic(auto, unfolding(rounds::specs::Field::sub))]
     fn sub(self, rhs: Element) -> Element {
         let a = self.0;
         let b = rhs.0;
@@ -153,12 +156,14 @@ impl Element {
     pub(crate) const ONE: Element = Element(4294967295);
 
     // The element of any value.
+    #[tactic(auto, unfolding(rounds::specs::Field::mul, rounds::specs::Field::raw_of))]
     pub(crate) fn new(value: u64) -> Element
         ensures { result ≡ raw_of value }
     {
         product(value, R2)
     }
 
+    #[tactic(auto, unfolding(rounds::specs::Field::mul, rounds::specs::Field::value_of))]
     pub(crate) fn value(self) -> u64
         ensures { result ≡ value_of self }
     {
@@ -178,7 +183,7 @@ impl Element {
                 found = found * square;
             }
             square = square * square;
-            left = left / 2;
+            left /= 2;
         }
         found
     }

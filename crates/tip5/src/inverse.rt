@@ -9,6 +9,7 @@ use crate::inverse_layers;
 use refusals::Refusal;
 use refusals::judge::judge_round;
 
+#[tactic(auto, unfolding(rounds::specs::Inverse::inv_round))]
 fn one_inv_round(round: usize, state: [Element; 16]) -> [Element; 16]
     requires { round < 5 }
     ensures { result ≡ inv_round round state }
@@ -18,10 +19,10 @@ fn one_inv_round(round: usize, state: [Element; 16]) -> [Element; 16]
     inverse_layers::inv_sbox_layer(m)
 }
 
-fn inv_permuted(state: [Element; 16]) -> [Element; 16]
+#[tactic(auto, unfolding(rounds::specs::Inverse::inv_permuted, rounds::specs::Inverse::inv_rounds))]
+fn inv_permuted(mut state: [Element; 16]) -> [Element; 16]
     ensures { result ≡ inv_permuted state }
 {
-    let mut state = state;
     for round in (0..5).rev() {
         state = one_inv_round(round, state);
     }

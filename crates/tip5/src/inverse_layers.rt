@@ -52,35 +52,18 @@ fn inv_split_and_lookup(a: Element) -> Element
     Element(bytewise(tables::inv_lookup, a.0))
 }
 
+#[tactic(auto, unfolding(rounds::specs::Inverse::inv_sbox_layer, rounds::specs::Inverse::inv_sbox, crate::specs::Powers::powers))]
 pub(crate) fn inv_sbox_layer(s: [Element; 16]) -> [Element; 16]
     ensures { result ≡ inv_sbox_layer s }
 {
-    let [
-        s0,
-        s1,
-        s2,
-        s3,
-        s4,
-        s5,
-        s6,
-        s7,
-        s8,
-        s9,
-        s10,
-        s11,
-        s12,
-        s13,
-        s14,
-        s15,
-    ] = s;
-    let [r4, r5, r6, r7] = seventh_roots([s4, s5, s6, s7]);
-    let [r8, r9, r10, r11] = seventh_roots([s8, s9, s10, s11]);
-    let [r12, r13, r14, r15] = seventh_roots([s12, s13, s14, s15]);
+    let [r4, r5, r6, r7] = seventh_roots([s[4], s[5], s[6], s[7]]);
+    let [r8, r9, r10, r11] = seventh_roots([s[8], s[9], s[10], s[11]]);
+    let [r12, r13, r14, r15] = seventh_roots([s[12], s[13], s[14], s[15]]);
     [
-        inv_split_and_lookup(s0),
-        inv_split_and_lookup(s1),
-        inv_split_and_lookup(s2),
-        inv_split_and_lookup(s3),
+        inv_split_and_lookup(s[0]),
+        inv_split_and_lookup(s[1]),
+        inv_split_and_lookup(s[2]),
+        inv_split_and_lookup(s[3]),
         r4,
         r5,
         r6,

@@ -60,6 +60,7 @@ pub(crate) fn sbox_layer(s: [Element; 16]) -> [Element; 16]
 
 // A row sum as one word: lo / 16 + hi * 2^28 is folded by 2^64 = 2^32 - 1, and the carry of that
 // again. The word may be P or more.
+#[tactic(auto, unfolding(crate::specs::Reduced::reduced, crate::specs::Reduced::folded))]
 fn reduced_word(lo: u64, hi: u64) -> u64
     ensures { result ≡ reduced (lo / 16 + hi * 2 ^ 28) }
 {

@@ -19,10 +19,10 @@ fn one_round(round: usize, state: [Element; 16]) -> [Element; 16]
     layers::add_constants(round, m)
 }
 
-fn permuted(state: [Element; 16]) -> [Element; 16]
+#[tactic(auto, unfolding(rounds::specs::Round::permuted, rounds::specs::Round::rounds))]
+fn permuted(mut state: [Element; 16]) -> [Element; 16]
     ensures { result ≡ permuted state }
 {
-    let mut state = state;
     for round in 0..5 {
         state = one_round(round, state);
     }

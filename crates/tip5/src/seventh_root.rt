@@ -14,8 +14,7 @@ fn power_accumulator(base: [Element; 4], times: u64, tail: [Element; 4]) -> [Ele
 {
     let mut square = base;
     for _ in 0..times {
-        let next = square.map(|a| a * a);
-        square = next;
+        square = square.map(|a| a * a);
     }
     [
         square[0] * tail[0],

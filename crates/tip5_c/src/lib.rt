@@ -44,6 +44,8 @@ fn number(judgement: Result<(), Refusal>) -> u32
     }
 }
 
+/// The permutation of 128 bytes in place. 0, or the number of `WrongLength` where there are not 128,
+/// then of `BadWord`; refused bytes stay as they are.
 pub fn tip5_permutation(state: &mut [u8]) -> u32
     ensures value { result ≡ number (bytes_refusal state.old) }
     ensures state_after { state.new ≡ after permuted state.old }
@@ -51,6 +53,7 @@ pub fn tip5_permutation(state: &mut [u8]) -> u32
     number(moved(state, permutation))
 }
 
+/// The inverse permutation of 128 bytes in place, refused as `tip5_permutation` is.
 pub fn tip5_inverse_permutation(state: &mut [u8]) -> u32
     ensures value { result ≡ number (bytes_refusal state.old) }
     ensures state_after { state.new ≡ after inv_permuted state.old }

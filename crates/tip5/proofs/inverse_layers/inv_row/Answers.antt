@@ -13,7 +13,7 @@ use Rattle.numbers.proofs.Congruence.{cong-eq, cong-trans}
 use Rattle.rounds.specs.Constants.{inv_mds_column}
 use Rattle.rounds.specs.Field.{mul}
 use Rattle.rounds.proofs.FieldLaws.{add-below}
-use Rattle.tip5.proofs.RowLaws.{mul-raw_of, row-done, row-turn}
+use Rattle.tip5.proofs.RowLaws.{mul-raw_of, row-turn}
 use Rattle.tip5.proofs.inverse_layers.inv_row.Goals as goal
 
 pub loop-c-init : goal.loop-c-init
@@ -28,8 +28,3 @@ loop-c-preserved c =
     let read : c.mul.result ≡ mul c.inv_entry.result w = grind (arith, common_steps) in
     let product = cong-trans (cong-eq (read ∙ ap (λ (n : ℕ). mul n w) c.inv_entry.ensures)) (mul-raw_of m w) in
     (subst⁻¹ (λ (n : ℕ). n < P) c.add-sum.ensures (add-below _ _), row-turn 16 l.c (λ c'. entry inv_mds_column c.args.r c' * get_or c.args.words c' 0) l.sum l.invariant.1 c.loop-c-test.true product c.add-sum.ensures)
-
-pub returns : goal.returns
-returns c =
-    let l = c.loop-c in
-    row-done 16 l.c (λ c'. entry inv_mds_column c.args.r c' * get_or c.args.words c' 0) l.invariant.1 (omega arith) l.invariant.0

@@ -20,7 +20,7 @@ loop-preserved c =
     let l = c.loop in
     record {
       at = λ k h.
-          let e : get_or c.map-next.result k 0 ≡ mul (get_or l.square k 0) (get_or l.square k 0) = (let f = c.map-next.ensures.items.at k 0 0 h in search rules) in
+          let e : get_or c.map-square.result k 0 ≡ mul (get_or l.square k 0) (get_or l.square k 0) = (let f = c.map-square.ensures.items.at k 0 0 h in search rules) in
           squared-more (get_or c.args.base k 0) l.counter (l.invariant.at k h) e;
     }
 
