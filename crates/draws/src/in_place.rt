@@ -25,6 +25,7 @@ pub fn sample_indices(
     judge_bound(bound)?;
     let mut found = 0;
     let mut squeezes = 0;
+    // Not `for squeezes in 0..allowance`: it would ask in two places whether the slice is full.
     while found < indices.len() {
         if squeezes == allowance {
             return Err(DrawError::AllowanceSpent { found, squeezes });
