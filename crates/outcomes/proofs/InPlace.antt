@@ -1,5 +1,8 @@
 -- No second outcome: the sponge and the draw in place.
 -- Assumes nothing.
+use mathlib.Core.List.{List}
+use Prim.Native.Nat.{ℕ}
+use Rattle.sponge.specs.declared.Tip5.{Tip5}
 use Rattle.sponge.proofs.Tip5.absorb.Reads as absorb
 use Rattle.sponge.proofs.Tip5.pad_and_absorb_all.Reads as pad-and-absorb-all
 use Rattle.sponge.proofs.Tip5.step_back.Reads as step-back
@@ -31,3 +34,10 @@ squeeze-once κs a x y e f h k = one (same h k)
 
 pub squeeze-leaves : OneExit squeeze.Learnt λ κs e. e.0.now
 squeeze-leaves κs a x y e f h k = other (same h k)
+
+pub sample-indices-once : OneAnswer sample-indices.Learnt
+sample-indices-once κs a x y e f h k = one (same h.0 k.0)
+
+-- the sponge and the slice
+pub sample-indices-leaves : OneExit {S = λ κs. Tip5 × List ℕ} sample-indices.Learnt λ κs e. (e.0.now, e.1.1.0.now)
+sample-indices-leaves κs a x y e f h k = λ i. (other (same h.0 k.0) i, same h.1 k.1 i)

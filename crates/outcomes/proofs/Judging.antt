@@ -8,10 +8,10 @@ use Rattle.outcomes.specs.Outcome.{OneAnswer}
 use Rattle.outcomes.proofs.Same.{same}
 
 pub judge-words-once : OneAnswer judge-words.Learnt
-judge-words-once κs a x y e f h k = same h.value k.value
+judge-words-once κs a x y e f h k = same h.0 k.0
 
 pub judge-length-once : OneAnswer judge-length.Learnt
-judge-length-once κs a x y e f h k = same h.value k.value
+judge-length-once κs a x y e f h k = same h.0 k.0
 
 pub judge-round-once : OneAnswer judge-round.Learnt
 judge-round-once κs a x y e f h k = same h k

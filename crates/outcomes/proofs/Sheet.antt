@@ -39,10 +39,10 @@ pub judge-sheet-once : OneAnswer judge-sheet.Learnt
 judge-sheet-once κs a x y e f h k = same h k
 
 pub read-sheet-once : OneAnswer read-sheet.Learnt
-read-sheet-once κs a x y e f h k = same h.judged k.judged
+read-sheet-once κs a x y e f h k = same h.0 k.0
 
 pub read-sheet-leaves : OneExit read-sheet.Learnt λ κs e. e.1.0.now
-read-sheet-leaves κs a x y e f h k = same h.read k.read
+read-sheet-leaves κs a x y e f h k = same h.1 k.1
 
 -- Answers
 

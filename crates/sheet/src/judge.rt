@@ -58,8 +58,8 @@ impl<'a> Sheet<'a> {
         Ok(sheet)
     }
 
-    #[tactic(auto, using(crate::proofs::ElementLaws::good_value), unfolding(crate::specs::Sheet::values_of))]
     // `BadWord` where a value is P or more.
+    #[tactic(auto, using(crate::proofs::ElementLaws::good_value), unfolding(crate::specs::Sheet::values_of))]
     fn judge_values(&self) -> Result<(), Refusal>
         ensures { result ≡ value_refusal (header_of self.now).elements self.now }
     {
@@ -71,8 +71,8 @@ impl<'a> Sheet<'a> {
         Ok(())
     }
 
-    #[tactic(auto, using(crate::proofs::BitLaws::number_word), unfolding(crate::specs::Sheet::value))]
     // The value of element i.
+    #[tactic(auto, using(crate::proofs::BitLaws::number_word), unfolding(crate::specs::Sheet::value))]
     fn value(&self, i: usize) -> u64
         requires { i < (header_of self.now).elements }
         ensures { result ≡ value self.now i }
@@ -95,8 +95,8 @@ impl<'a> Sheet<'a> {
         self.header
     }
 
-    #[tactic(auto, using(crate::proofs::ElementLaws::one_word), unfolding(crate::specs::Sheet::words_of))]
     // The raw words of the elements, at the front of an array.
+    #[tactic(auto, using(crate::proofs::ElementLaws::one_word), unfolding(crate::specs::Sheet::words_of))]
     pub(crate) fn put_words(&self, words: &mut [u64; 8192])
         ensures { words.new ≡ elements_in_front self.now words.old }
     {

@@ -6,9 +6,9 @@ use crate::header::Header;
 use crate::judge::Sheet;
 use refusals::Refusal;
 
-#[tactic(auto, unfolding(crate::specs::Sheet::read_words))]
 /// The header of an accepted sheet, its words at the front of the array and the rest of it as it was. Refused as
 /// `judge_sheet`, with the array as it was.
+#[tactic(auto, unfolding(crate::specs::Sheet::read_words))]
 pub fn read_sheet(sheet: &[u8], words: &mut [u64; 8192]) -> Result<Header, Refusal>
     ensures judged { result ≡ judge_sheet sheet.now }
     ensures read { words.new ≡ read_words sheet.now words.old }

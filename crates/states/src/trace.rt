@@ -6,9 +6,9 @@ use refusals::Refusal;
 use refusals::judge::judge_words;
 use tip5::permutation::round;
 
-#[tactic(auto, using(crate::proofs::TraceLaws::entered_all))]
 /// The state at entry and after each round, one after another: six states of sixteen words. Refused
 /// is `BadWord`.
+#[tactic(auto, using(crate::proofs::TraceLaws::entered_all))]
 pub fn trace(state: [u64; 16]) -> Result<[u64; 96], Refusal>
     ensures { result ≡ Trace.trace state }
 {
