@@ -3,9 +3,9 @@ pub mod AcceptedLaws
 pub mod BelowLaws
 pub mod DigestLaws
 pub mod HistoryLaws
-pub mod ListLaws
 pub mod PaddingLaws
 pub mod SpongeLaws
 pub mod WalkBack
 pub mod TensLaws
 pub mod RecordLaws
+pub mod StartLaws

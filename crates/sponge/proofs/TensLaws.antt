@@ -8,14 +8,17 @@ use lib.ListN.{drop, length, take, length-append}
 use lib.Seq.{drop_at, take_at}
 use Rattle.std.proofs.Math.Seq.{drop-append-add}
 use Rattle.rounds.specs.Field.{Below}
+use Rattle.refusals.specs.Judge.{Judgement, granted, none, word_refusal}
+use Rattle.refusals.proofs.JudgeLaws.{below_accepted}
 use Rattle.sponge.specs.declared.Tip5.{Tip5}
 use Rattle.sponge.specs.History.{padded_steps, run}
 use Rattle.sponge.specs.Padding.{last_ten}
-use Rattle.sponge.specs.Sponge.{absorbed}
+use Rattle.sponge.specs.InPlace.{leaving}
+use Rattle.sponge.specs.Sponge.{absorbed, overwrite, permute}
 use Rattle.sponge.proofs.BelowLaws.{drop-below, take-below}
 use Rattle.sponge.proofs.HistoryLaws.{run-padded-last, run-padded-more}
 use Rattle.sponge.proofs.PaddingLaws.{last_ten-below}
-use Rattle.sponge.proofs.SpongeLaws.{absorbed_below}
+use Rattle.sponge.proofs.SpongeLaws.{absorbed_below, overwrite_below}
 
 -- the words after the last whole ten
 abbrev pub over : List ℕ → List ℕ
@@ -27,6 +30,17 @@ pub record Left (input : List ℕ) (start : Tip5) (rest : List ℕ) (sponge : Ti
   pub judged : Below sponge.state
   pub last : over rest ≡ over input
   pub same : run (padded_steps input) start ≡ run (padded_steps rest) sponge
+
+-- ten words that were judged overwrite words 0 to 9 of a judged sponge, and the permutation that follows is granted
+pub absorbs : (ten : List ℕ) (s : Tip5) {t u : Tip5} {j : Judgement} → (j, t) ≡ leaving (granted (word_refusal u.state) (permute u)) u → u ≡ overwrite ten s → Below s.state → Below ten
+    → (j ≡ none) × (t ≡ absorbed ten s)
+unfolding absorbed
+absorbs ten s e same hs ht =
+    let p =
+    e
+    ∙ ap (λ (v : Tip5). leaving (granted (word_refusal v.state) (permute v)) v) same
+    ∙ ap (λ (k : Judgement). leaving (granted k (permute (overwrite ten s))) (overwrite ten s)) (below_accepted (overwrite ten s).state (overwrite_below ten s ht hs)) in
+    (ap (λ (x : Judgement × Tip5). x.0) p, ap (λ (x : Judgement × Tip5). x.1) p)
 
 pub begins : (input : List ℕ) (s : Tip5) → Below s.state → Below input → Left input s input s
 begins input s hs hi = record { below = hi; judged = hs; last = refl; same = refl }
@@ -62,8 +76,8 @@ goes_on input start ten ws rest s t l e long absorbs =
 pub ten_below : (input : List ℕ) (start : Tip5) (ten ws rest : List ℕ) (s : Tip5) → Left input start rest s → rest ≡ ten ++ ws → length ten ≡ 10 → Below ten
 ten_below input start ten ws rest s l e long = subst Below (ap (take 10) e ∙ take-ten ten ws long) (take-below 10 rest l.below)
 
-pub last_below : (input : List ℕ) → Below input → Below (last_ten (over input))
-last_below input h = last_ten-below (over input) (drop-below (length input - length input % 10) input h)
+pub last_below : {input : List ℕ} {start : Tip5} {rest : List ℕ} {s : Tip5} → Left input start rest s → Below (last_ten (over input))
+last_below {rest = rest} l = subst (λ (ws : List ℕ). Below (last_ten ws)) l.last (last_ten-below (over rest) (drop-below (length rest - length rest % 10) rest l.below))
 
 pub ends : (input : List ℕ) (start : Tip5) (rest : List ℕ) (s t : Tip5) → Left input start rest s → length rest < 10
     → t ≡ absorbed (last_ten (over input)) s → t ≡ run (padded_steps input) start

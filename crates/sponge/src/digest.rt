@@ -1,26 +1,25 @@
 // Digests: words 0 to 4 of a sponge.
 ghost use Rattle.std.specs.Prelude.{◌≡◌, ◌++◌, length};
-ghost use Rattle.rounds.specs.Field.{Below};
 ghost use Rattle.sponge.specs.Answers.{hash10, hash_pair, hash_varlen};
-ghost use Rattle.sponge.specs.Digest.{digest_of_ten};
 ghost use Rattle.sponge.specs.Digest as Digest;
 
-use crate::{DIGEST_LENGTH, Domain, RATE, Tip5};
+use crate::{DIGEST_LENGTH, Domain, Tip5};
 use refusals::Refusal;
 use refusals::judge::{judge_length, judge_words};
 
 impl Tip5 {
     /// The digest of ten words.
+    #[tactic(auto, using(crate::proofs::StartLaws::ten_judged), unfolding(crate::specs::Digest::digest_of_ten))]
     pub fn hash_10(input: &[u64]) -> Result<[u64; 5], Refusal>
         ensures { result ≡ hash10 input.now }
     {
-        judge_length(RATE, input)?;
-        judge_words(input)?;
-        Ok(digest_of_ten(input))
+        let mut sponge = Tip5::new(Domain::FixedLength);
+        sponge.absorb(input)?;
+        Ok(sponge.digest())
     }
 
     /// The digest of two digests.
-    #[tactic(auto, unfolding(crate::specs::Digest::digest_of_pair))]
+    #[tactic(auto, using(crate::proofs::StartLaws::pair_judged), unfolding(crate::specs::Digest::digest_of_pair))]
     pub fn hash_pair(left: &[u64], right: &[u64]) -> Result<[u64; 5], Refusal>
         ensures { result ≡ hash_pair left.now right.now }
     {
@@ -28,17 +27,16 @@ impl Tip5 {
         judge_length(DIGEST_LENGTH, right)?;
         judge_words(left)?;
         judge_words(right)?;
-        Ok(digest_of_ten(&joined(left, right)))
+        Tip5::hash_10(&joined(left, right))
     }
 
     /// The digest of any number of words.
-    #[tactic(auto, using(crate::proofs::SpongeLaws::start_below), unfolding(crate::specs::Digest::digest_of))]
+    #[tactic(auto, using(crate::proofs::StartLaws::input_judged), unfolding(crate::specs::Digest::digest_of))]
     pub fn hash_varlen(input: &[u64]) -> Result<[u64; 5], Refusal>
         ensures { result ≡ hash_varlen input.now }
     {
-        judge_words(input)?;
         let mut sponge = Tip5::init();
-        sponge.absorb_padded(input);
+        sponge.pad_and_absorb_all(input)?;
         Ok(sponge.digest())
     }
 
@@ -50,17 +48,6 @@ impl Tip5 {
         let s = self.state;
         [s[0], s[1], s[2], s[3], s[4]]
     }
-}
-
-// The digest of ten words that were judged.
-#[tactic(auto, using(crate::proofs::SpongeLaws::start_below), unfolding(crate::specs::Digest::digest_of_ten))]
-fn digest_of_ten(ten: &[u64]) -> [u64; 5]
-    requires { (length ten.now ≡ 10) × Below ten.now }
-    ensures { result ≡ digest_of_ten ten.now }
-{
-    let mut sponge = Tip5::new(Domain::FixedLength);
-    sponge.absorb_judged(ten);
-    sponge.digest()
 }
 
 // Two digests, one after the other.

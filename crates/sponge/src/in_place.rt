@@ -2,10 +2,9 @@
 // sponge as it was.
 ghost use Rattle.std.specs.Prelude.{◌≡◌, OnOk, length};
 ghost use Rattle.rounds.specs.Field.{Below};
+ghost use Rattle.refusals.specs.Judge.{granted, word_refusal};
 ghost use Rattle.sponge.specs.Answers.{absorb, absorb_refusal, pad_and_absorb_all, pad_refusal, squeeze};
-ghost use Rattle.sponge.specs.History.{padded_steps, run};
 ghost use Rattle.sponge.specs.InPlace.{leaving, leaving_ten};
-ghost use Rattle.sponge.specs.Sponge.{absorbed};
 ghost use Rattle.sponge.specs.Sponge as Sponge;
 
 use crate::padding::last_ten;
@@ -16,21 +15,29 @@ use tip5::permutation::permutation;
 
 impl Tip5 {
     /// Words 0 to 9 are overwritten by ten words, then the permutation.
+    #[tactic(auto, using(refusals::proofs::JudgeLaws::below_accepted, crate::proofs::SpongeLaws::overwrite_below), unfolding(crate::specs::Sponge::absorbed))]
     pub fn absorb(&mut self, ten: &[u64]) -> Result<(), Refusal>
         ensures { (result, self.new) ≡ leaving (absorb self.old ten.now) self.old }
     {
         self.judge_absorb(ten)?;
-        self.absorb_judged(ten);
-        Ok(())
+        self.overwrite(ten);
+        self.permute()
     }
 
     /// Every ten of the padded input is absorbed.
+    #[tactic(auto, using(refusals::proofs::JudgeLaws::below_accepted, crate::proofs::SpongeLaws::overwrite_below, crate::proofs::TensLaws::begins, crate::proofs::TensLaws::goes_on, crate::proofs::TensLaws::ends, crate::proofs::TensLaws::ten_below, crate::proofs::TensLaws::last_below), unfolding(crate::specs::Sponge::absorbed))]
     pub fn pad_and_absorb_all(&mut self, input: &[u64]) -> Result<(), Refusal>
         ensures { (result, self.new) ≡ leaving (pad_and_absorb_all self.old input.now) self.old }
     {
         self.judge_input(input)?;
-        self.absorb_padded(input);
-        Ok(())
+        let tens = input.chunks_exact(RATE);
+        let rest = tens.remainder();
+        for ten in tens {
+            self.overwrite(ten);
+            self.permute()?;
+        }
+        self.overwrite(&last_ten(rest));
+        self.permute()
     }
 
     /// Words 0 to 9 as they were, then the permutation.
@@ -38,9 +45,8 @@ impl Tip5 {
     pub fn squeeze(&mut self) -> Result<[u64; 10], Refusal>
         ensures { (result, self.new) ≡ leaving_ten (squeeze self.old) self.old }
     {
-        judge_words(&self.state)?;
         let ten = self.rate();
-        self.permute();
+        self.permute()?;
         Ok(ten)
     }
 
@@ -63,13 +69,13 @@ impl Tip5 {
         self.judge_input(ten)
     }
 
-    // One permutation.
-    #[tactic(auto, using(refusals::proofs::JudgeLaws::below_accepted), unfolding(crate::specs::Sponge::permute))]
-    fn permute(&mut self)
-        requires { Below self.old.state }
-        ensures { self.new ≡ Sponge.permute self.old }
+    // One permutation, which judges the words.
+    #[tactic(auto, unfolding(crate::specs::Sponge::permute))]
+    fn permute(&mut self) -> Result<(), Refusal>
+        ensures { (result, self.new) ≡ leaving (granted (word_refusal self.old.state) (Sponge.permute self.old)) self.old }
     {
-        self.state = permutation(self.state).unwrap();
+        self.state = permutation(self.state)?;
+        Ok(())
     }
 
     // Words 0 to 9.
@@ -88,30 +94,5 @@ impl Tip5 {
         ensures { self.new ≡ Sponge.overwrite ten.now self.old }
     {
         self.state[..RATE].copy_from_slice(ten);
-    }
-
-    // An absorb of ten words that were judged.
-    #[tactic(auto, using(crate::proofs::SpongeLaws::overwrite_below), unfolding(crate::specs::Sponge::absorbed))]
-    pub(crate) fn absorb_judged(&mut self, ten: &[u64])
-        requires ten_length { length ten.now ≡ 10 }
-        requires below { Below self.old.state × Below ten.now }
-        ensures { self.new ≡ absorbed ten.now self.old }
-    {
-        self.overwrite(ten);
-        self.permute();
-    }
-
-    // An absorb of every ten of a padded input that was judged.
-    #[tactic(auto, using(crate::proofs::TensLaws::begins, crate::proofs::TensLaws::goes_on, crate::proofs::TensLaws::ends, crate::proofs::TensLaws::ten_below, crate::proofs::TensLaws::last_below))]
-    pub(crate) fn absorb_padded(&mut self, input: &[u64])
-        requires { Below self.old.state × Below input.now }
-        ensures { self.new ≡ run (padded_steps input.now) self.old }
-    {
-        let tens = input.chunks_exact(RATE);
-        let rest = tens.remainder();
-        for ten in tens {
-            self.absorb_judged(ten);
-        }
-        self.absorb_judged(&last_ten(rest));
     }
 }

@@ -1,14 +1,14 @@
 // One step back: what an accepted squeeze or absorb did to a sponge is undone. A history is walked back by such calls in
 // turn, last step first.
 ghost use Rattle.std.specs.Prelude.{◌≡◌};
-ghost use Rattle.rounds.specs.Field.{Below};
+ghost use Rattle.refusals.specs.Judge.{granted, word_refusal};
 ghost use Rattle.sponge.specs.Answers.{step_back};
 ghost use Rattle.sponge.specs.InPlace.{leaving};
 ghost use Rattle.sponge.specs.Sponge as Sponge;
 
 use crate::{RATE, Tip5};
 use refusals::Refusal;
-use refusals::judge::{judge_length, judge_words};
+use refusals::judge::judge_length;
 use tip5::inverse::inv_permutation;
 
 /// The two kinds of steps: there is no third.
@@ -21,32 +21,31 @@ pub enum StepKind {
 impl Tip5 {
     /// One step back. Beside an absorb the ten words are those that it overwrote, put back as given; beside a squeeze any ten
     /// stand there, and are not judged.
-    #[tactic(auto, unfolding(crate::specs::Sponge::unsqueezed, crate::specs::Sponge::unabsorbed))]
+    #[tactic(auto, using(refusals::proofs::JudgeLaws::below_accepted), unfolding(crate::specs::Sponge::unsqueezed, crate::specs::Sponge::unabsorbed))]
     pub fn step_back(&mut self, kind: StepKind, ten: &[u64]) -> Result<(), Refusal>
         ensures { (result, self.new) ≡ leaving (step_back kind self.old ten.now) self.old }
     {
         match kind {
             StepKind::Squeeze => {
                 judge_length(RATE, ten)?;
-                judge_words(&self.state)?;
-                self.unpermute();
+                self.unpermute()
             }
             StepKind::Absorb => {
                 self.judge_absorb(ten)?;
-                self.unpermute();
+                self.unpermute()?;
                 self.overwrite(ten);
+                Ok(())
             }
         }
-        Ok(())
     }
 
-    // One permutation undone.
-    #[tactic(auto, using(refusals::proofs::JudgeLaws::below_accepted), unfolding(crate::specs::Sponge::unpermute))]
-    fn unpermute(&mut self)
-        requires { Below self.old.state }
-        ensures { self.new ≡ Sponge.unpermute self.old }
+    // One permutation undone, which judges the words.
+    #[tactic(auto, unfolding(crate::specs::Sponge::unpermute))]
+    fn unpermute(&mut self) -> Result<(), Refusal>
+        ensures { (result, self.new) ≡ leaving (granted (word_refusal self.old.state) (Sponge.unpermute self.old)) self.old }
     {
-        self.state = inv_permutation(self.state).unwrap();
+        self.state = inv_permutation(self.state)?;
+        Ok(())
     }
 }
 
