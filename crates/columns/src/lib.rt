@@ -64,6 +64,8 @@ pub fn entry(words: &[u64], stride: usize, offset: usize, row: usize) -> Result<
     .get(row)
 }
 
+// Two names for one call: both are public, and docs/CONTRACTS.md names them.
+
 /// The word of a row, as `Column::get`.
 pub fn column_entry(words: &[u64], stride: usize, offset: usize, row: usize) -> Result<u64, Refusal>
     ensures { result ≡ entry words.now stride offset row }

@@ -11,11 +11,12 @@ use borrow.Author.Tests.{eq-eqb, ne_eqb}
 use lib.Arith.{lt_of_le-ne}
 use lib.Count.{ones}
 use lib.Pow.{pow_pos}
-use Rattle.std.specs.Prelude.{Err}
+use Rattle.std.specs.Prelude.{Result, Ok, Err}
 use Rattle.std.proofs.lemmas.Nat.{ones_cat, zero_from_ones}
+use Rattle.refusals.specs.declared.refusal.Refusal.{Refusal}
 use Rattle.refusals.specs.declared.refusal.Refusal.TheVariants.{BadBound}
-use Rattle.refusals.specs.Judge.{none}
-use Rattle.refusals.proofs.JudgeLaws.{passed, refused}
+use Rattle.refusals.specs.Judge.{Judgement, granted, none}
+use Rattle.refusals.proofs.JudgeLaws.{passed, refused, refused-not-none}
 use Rattle.draws.specs.Bound.{bound_refusal, power_below}
 
 -- the bound is 2 ^ k, and k is below n
@@ -128,3 +129,17 @@ other_refused bound h = sym (refused (power_below 32 bound) BadBound (λ t. h (t
 
 pub power_positive : (bound : ℕ) → bound < 2 ^ 32 → ones bound ≡ 1 → 0 < bound
 power_positive bound h e = power-positive (one-power 32 bound h e)
+
+-- a bound that is granted was not refused, and is the number that was judged
+
+abbrev number_in : Result ℕ Refusal → ℕ → ℕ
+number_in (Ok n) room = n
+number_in (Err refusal) room = room
+
+pub granted_bound : (j : Judgement) {b n : ℕ} → Ok b ≡ granted j n → (none ≡ j) × (b ≡ n)
+granted_bound (Ok done) {b} {n} e = (refl, ap (λ (r : Result ℕ Refusal). number_in r b) e)
+granted_bound (Err refusal) e = absurd (refused-not-none (sym (ap judged e)))
+  where
+    judged : Result ℕ Refusal → Judgement
+    judged (Ok n) = none
+    judged (Err refusal) = Err refusal

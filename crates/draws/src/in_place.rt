@@ -3,7 +3,7 @@ ghost use Rattle.std.specs.Prelude.{◌≡◌, length};
 ghost use Rattle.draws.specs.Answers.{sample_indices, sampled_slice};
 
 use crate::DrawError;
-use crate::bound::judge_bound;
+use crate::bound::Bound;
 use crate::index::put_indices;
 use refusals::judge::judge_words;
 use sponge::Tip5;
@@ -22,7 +22,7 @@ pub fn sample_indices(
     ensures slice { indices.new ≡ sampled_slice sponge.old bound allowance indices.old }
 {
     judge_words(&sponge.state)?;
-    judge_bound(bound)?;
+    let bound = Bound::judged(bound)?;
     let mut found = 0;
     let mut squeezes = 0;
     // Not `for squeezes in 0..allowance`: it would ask in two places whether the slice is full.

@@ -2,42 +2,34 @@
 ghost use Rattle.std.specs.Prelude.{◌≡◌, ◌<◌};
 ghost use Rattle.numbers.specs.Modulus.{P};
 ghost use Rattle.rounds.specs.Field.{Below, value_of};
-ghost use Rattle.draws.specs.Draw.{drawn_from, from_words, index_of};
+ghost use Rattle.draws.specs.Draw.{drawn_from, from_words};
 ghost use Rattle.draws.specs.Filled.{filled};
 
+use crate::bound::Bound;
 use rounds::P;
-use tip5::b_field_element::{BFieldElement, Value};
+use tip5::b_field_element::BFieldElement;
 
 // The value that draws nothing: P - 1.
 const SKIPPED: u64 = P - 1;
 
-// The low 32 bits of a value, modulo the bound.
-#[tactic(auto, unfolding(crate::specs::Draw::index_of))]
-fn index_of(value: Value, bound: u32) -> u32
-    requires { 0 < bound }
-    ensures { result ≡ index_of bound value.0 }
-{
-    (value.0 % 4294967296) as u32 % bound
-}
-
 // What a word draws is put at the front, if there is room: how many indices are put, none or one.
 #[tactic(auto, using(crate::proofs::IndexLaws::put_nothing, crate::proofs::IndexLaws::put_no_room, crate::proofs::IndexLaws::put_one))]
-fn put_index(word: u64, bound: u32, free: &mut [u32]) -> usize
-    requires { (0 < bound) × (word < P) }
+fn put_index(word: u64, bound: Bound, free: &mut [u32]) -> usize
+    requires { word < P }
     ensures { (result, free.new) ≡ filled (drawn_from bound (value_of word)) free.old }
 {
     let value = BFieldElement(word).value().unwrap();
     if value.0 == SKIPPED || free.is_empty() {
         return 0;
     }
-    free[0] = index_of(value, bound);
+    free[0] = bound.index_of(value);
     1
 }
 
 // The same of each word, in their order.
 #[tactic(auto, using(crate::proofs::IndexLaws::put_begins, crate::proofs::FilledLaws::filled_room))]
-pub(crate) fn put_indices(words: &[u64], bound: u32, free: &mut [u32]) -> usize
-    requires { (0 < bound) × Below words.now }
+pub(crate) fn put_indices(words: &[u64], bound: Bound, free: &mut [u32]) -> usize
+    requires { Below words.now }
     ensures { (result, free.new) ≡ filled (from_words bound words.now) free.old }
 {
     let mut put = 0;

@@ -8,7 +8,7 @@ use std::io;
 use tip5::b_field_element::{BFieldElement, Value};
 
 /// The calls of the field.
-#[derive(Clone, Copy)]
+#[derive(Clone, Copy, Debug, PartialEq, Eq, Hash)]
 pub enum Call {
     New,
     FromRawU64,
@@ -23,6 +23,7 @@ pub enum Call {
 /// A call, the words that go in, the second 0 where there is none, and the answer.
 pub type Case = (Call, u64, u64, Result<u64, Refusal>);
 
+// A table of stored cases can hold no functions that take this one or those two arguments, so each call is a variant.
 fn answer(call: Call, a: u64, b: u64) -> Result<u64, Refusal> {
     let x = BFieldElement(a);
     let y = BFieldElement(b);

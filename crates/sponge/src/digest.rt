@@ -45,8 +45,7 @@ impl Tip5 {
     fn digest(&self) -> [u64; 5]
         ensures { result ≡ Digest.digest self.now }
     {
-        let s = self.state;
-        [s[0], s[1], s[2], s[3], s[4]]
+        *self.state.first_chunk::<DIGEST_LENGTH>().unwrap()
     }
 }
 

@@ -83,8 +83,7 @@ impl Tip5 {
     fn rate(&self) -> [u64; 10]
         ensures { result ≡ Sponge.rate self.now }
     {
-        let s = self.state;
-        [s[0], s[1], s[2], s[3], s[4], s[5], s[6], s[7], s[8], s[9]]
+        *self.state.first_chunk::<RATE>().unwrap()
     }
 
     // Words 0 to 9 are overwritten.

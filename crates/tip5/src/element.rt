@@ -178,6 +178,7 @@ impl Element {
         let mut found = Element::ONE;
         let mut square = self;
         let mut left = exponent;
+        // No index is counted: the exponent is halved until nothing is left of it.
         while 0 < left {
             if left % 2 == 1 {
                 found = found * square;
