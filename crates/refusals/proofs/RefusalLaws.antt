@@ -3,12 +3,12 @@
 -- Assumes nothing.
 use mathlib.Core.List.{List, [], ◌∷◌}
 use mathlib.Core.Path.{◌≡◌, refl, ap, ◌∙◌}
-use Prim.Native.Nat.{ℕ, ◌≤◌, ◌<◌}
-use borrow.Author.Tests.{eq-eqb, eqb-true, le-ltb, lt-ltb, ne_eqb}
-use lib.Dec.{eqb, ltb, ltb→lt}
+use Prim.Native.Nat.{ℕ, ◌<◌}
+use borrow.Author.Tests.{eq-eqb, eqb-true, lt-ltb, ne_eqb}
+use lib.Dec.{eqb}
 use lib.ListN.{length}
 use Rattle.std.specs.Prelude.{Ok, Err}
-use Rattle.refusals.specs.declared.refusal.Refusal.TheVariants.{WrongLength, NoSuchRound}
+use Rattle.refusals.specs.declared.refusal.Refusal.TheVariants.{WrongLength}
 use Rattle.refusals.specs.Judge.{Judgement, first, length_refusal, none, round_refusal}
 use Rattle.refusals.proofs.JudgeLaws.{passed, refused-not-none}
 
@@ -45,9 +45,3 @@ accepted-length n ws e = eqb-true (length ws) n (passed (eqb (length ws) n) Wron
 
 pub round-accepted : {i : ℕ} → i < 5 → round_refusal i ≡ none
 round-accepted h = rw (lt-ltb _ _ h)
-
-pub round-refused : {i : ℕ} → 5 ≤ i → round_refusal i ≡ Err NoSuchRound
-round-refused h = rw (le-ltb _ _ h)
-
-pub accepted-round : (i : ℕ) → round_refusal i ≡ none → i < 5
-accepted-round i e = ltb→lt i 5 (rw (passed (ltb i 5) NoSuchRound e) tt)
