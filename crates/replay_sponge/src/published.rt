@@ -46,8 +46,8 @@ fn of_lists() -> Result<[u64; 5], Refusal> {
     let mut total = [0; 5];
     for n in 0..20 {
         let digest = Tip5::hash_varlen(&list[..n])?;
-        for k in 0..5 {
-            total[k] = BFieldElement(total[k]).add(BFieldElement(digest[k]))?.0;
+        for (sum, word) in total.iter_mut().zip(digest) {
+            *sum = BFieldElement(*sum).add(BFieldElement(word))?.0;
         }
         list[n] = BFieldElement::new(Value(n as u64)).0;
     }

@@ -65,8 +65,8 @@ pub(crate) fn padded() -> Tally {
 
 pub(crate) fn tens() -> Tally {
     let mut tally = Tally::default();
-    for i in 0..TENS.len() {
-        tally.note(Tip5::hash_10(&TENS[i]) == Ok(TEN_DIGESTS[i]));
+    for (ten, digest) in TENS.iter().zip(&TEN_DIGESTS) {
+        tally.note(Tip5::hash_10(ten) == Ok(*digest));
     }
     tally
 }
@@ -74,9 +74,9 @@ pub(crate) fn tens() -> Tally {
 // The two halves of each ten.
 pub(crate) fn pairs() -> Tally {
     let mut tally = Tally::default();
-    for i in 0..TENS.len() {
-        let (left, right) = TENS[i].split_at(5);
-        tally.note(Tip5::hash_pair(left, right) == Ok(TEN_DIGESTS[i]));
+    for (ten, digest) in TENS.iter().zip(&TEN_DIGESTS) {
+        let (left, right) = ten.split_at(5);
+        tally.note(Tip5::hash_pair(left, right) == Ok(*digest));
     }
     tally
 }
