@@ -3,6 +3,7 @@
 use Rattle.std.specs.Prelude.{cond, List, [], ◌∷◌, ◌++◌, ℕ, ltb, drop, length, replicate, Result, Ok, Err}
 use Rattle.refusals.specs.declared.refusal.Refusal.TheVariants as Refusals
 use Rattle.refusals.specs.Judge.{Judgement, first, none, unless}
+use Rattle.refusals.specs.Number.{number_of}
 use Rattle.sponge.specs.declared.Tip5.{Tip5}
 use Rattle.sponge.specs.Answers.{squeeze_refusal}
 use Rattle.sponge.specs.History.{Step}
@@ -44,3 +45,9 @@ sampled_slice s bound allowance before = in_front (drawn s bound allowance (leng
 -- its steps: every squeeze that it made is one, with refusal 6 too
 abbrev pub draw_steps : Tip5 → (bound allowance wanted : ℕ) → List Step
 draw_steps s bound allowance wanted = replicate (drawn s bound allowance wanted).squeezes squeeze
+
+-- an answer as its number and both counts: zeros where nothing was drawn, and as many indices as are wanted where none is missing
+abbrev pub counted : (wanted : ℕ) → Result ℕ DrawError → ℕ × (ℕ × ℕ)
+counted wanted (Ok squeezes) = (0, (wanted, squeezes))
+counted wanted (Err (Refused refusal)) = (number_of refusal, (0, 0))
+counted wanted (Err (AllowanceSpent found squeezes)) = (number_of Refusals.AllowanceSpent, (found, squeezes))

@@ -1,7 +1,7 @@
 // The draw of indices, by value and in place: the sponge is lent as its sixteen words, and moves by the squeezes that were made.
 ghost use Rattle.std.specs.Prelude.{◌≡◌, length};
-ghost use Rattle.draws.specs.Answers.{sample_indices, sampled_slice};
-ghost use Rattle.probe.specs.Answers.{counted, sponge_of};
+ghost use Rattle.draws.specs.Answers.{counted, sample_indices, sampled_slice};
+ghost use Rattle.probe.specs.Answers.{sponge_of};
 
 use draws::{DrawError, in_place};
 use refusals::Refusal;

@@ -1,10 +1,11 @@
 // The field calls. An element goes in as its raw word; what a call answers is written to the place
 // that it is lent, or 0 where it is refused, and its refusal returned.
 ghost use Rattle.std.specs.Prelude.{◌≡◌};
+ghost use Rattle.refusals.specs.Number.{handed};
 ghost use Rattle.rounds.specs.Field.{raw_of};
 ghost use Rattle.tip5.specs.Element.{difference, element_of, from_raw, mod_pow, product, raw_word, sum};
 ghost use Rattle.tip5.specs.Element.{value as value_given};
-ghost use Rattle.probe.specs.Answers.{handed, value_of_word};
+ghost use Rattle.probe.specs.Answers.{value_of_word};
 
 use crate::handing::{hand_out, hand_out_element};
 use tip5::b_field_element::{BFieldElement, Value};

@@ -1,7 +1,8 @@
 // Handing an answer to C: its refusal's number is returned, 0 for none, and what it holds goes to a place. Where the call is
 // refused the place stays as it was.
 ghost use Rattle.std.specs.Prelude.{◌≡◌};
-ghost use Rattle.probe.specs.Answers.{handed, sponge_of};
+ghost use Rattle.refusals.specs.Number.{handed};
+ghost use Rattle.probe.specs.Answers.{sponge_of};
 ghost use Rattle.tip5.specs.Element.{element_of};
 
 use refusals::Refusal;

@@ -1,10 +1,11 @@
 // The sponge, the digests and one step back. A sponge is lent as its sixteen words, which a refused call leaves; a refused
 // digest and the ten words of a refused squeeze are zeros.
 ghost use Rattle.std.specs.Prelude.{◌≡◌, replicate};
+ghost use Rattle.refusals.specs.Number.{handed};
 ghost use Rattle.sponge.specs.Answers.{hash10, hash_pair, hash_varlen, pad_and_absorb_all, step_back};
 ghost use Rattle.sponge.specs.Answers as Answers;
 ghost use Rattle.sponge.specs.Sponge.{start};
-ghost use Rattle.probe.specs.Answers.{handed, sponge_of};
+ghost use Rattle.probe.specs.Answers.{sponge_of};
 
 use crate::handing::{hand_out, hand_out_sponge};
 use sponge::step_back::{StepKind, step_back};

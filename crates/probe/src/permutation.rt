@@ -6,10 +6,9 @@ ghost use Rattle.matrix.specs.Column.{mds_column};
 ghost use Rattle.rounds.specs.Round.{permuted};
 ghost use Rattle.rounds.specs.Round as Round;
 ghost use Rattle.refusals.specs.Judge.{unless};
-ghost use Rattle.refusals.specs.Number.{number};
+ghost use Rattle.refusals.specs.Number.{handed, number};
 ghost use Rattle.states.specs.InPlace.{round_slice_refusal, slice_refusal};
 ghost use Rattle.states.specs.Trace as Trace;
-ghost use Rattle.probe.specs.Answers.{handed};
 
 use crate::handing::hand_out;
 use refusals::refusal::number;

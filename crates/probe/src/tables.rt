@@ -1,9 +1,8 @@
 // Tables: the digests of their rows, and a view of one column.
 ghost use Rattle.std.specs.Prelude.{◌≡◌};
-ghost use Rattle.refusals.specs.Number.{number};
+ghost use Rattle.refusals.specs.Number.{handed, number};
 ghost use Rattle.columns.specs.Column.{entry, row_count};
 ghost use Rattle.rows.specs.Rows.{hashed_rows, rows_refusal};
-ghost use Rattle.probe.specs.Answers.{handed};
 
 use crate::handing::hand_out;
 use columns::Column;

@@ -1,10 +1,13 @@
 -- What a caller knows of a sheet that is accepted: its header and its words.
 -- Assumes nothing.
-use mathlib.Core.List.{List, ◌++◌}
+use mathlib.Core.Bool.{cond}
+use mathlib.Core.List.{List, [], ◌∷◌, ◌++◌}
 use mathlib.Core.Path.{◌≡◌, refl, ap, subst, sym, ◌∙◌}
-use Prim.Native.Nat.{ℕ, ◌≤◌, ◌<◌}
+use Prim.Native.Nat.{ℕ, ◌+◌, ◌*◌, ◌≤◌, ◌<◌}
 use native.Mathlib.Nat.{le_of_suc-le-suc}
-use lib.ListN.{drop, take}
+use borrow.Author.Tests.{eqb-true, leb-true, ltb-true}
+use lib.Dec.{eqb, leb, ltb}
+use lib.ListN.{drop, length, take}
 use lib.Seq.{take_at}
 use Rattle.std.specs.Prelude.{Ok, Err, IfOk, Result, T, is_ok}
 use Rattle.numbers.proofs.Lists.{length-tab}
@@ -13,10 +16,40 @@ use Rattle.rounds.proofs.FieldLaws.{raw_of-below}
 use Rattle.rounds.proofs.RoundLaws.{tab-below}
 use Rattle.refusals.specs.declared.refusal.Refusal.{Refusal}
 use Rattle.refusals.specs.Judge.{Judgement, granted, none, unless, word_refusal}
-use Rattle.refusals.proofs.JudgeLaws.{below_accepted}
+use Rattle.refusals.specs.declared.refusal.Refusal.TheVariants.{BadHeader, WrongSheetLength}
+use Rattle.refusals.proofs.JudgeLaws.{below_accepted, passed}
+use Rattle.refusals.proofs.RefusalLaws.{none-first}
 use Rattle.sheet.specs.declared.header.Header.{Header}
-use Rattle.sheet.specs.Sheet.{elements_in_front, header_of, judge_sheet, read_words, sheet_refusal, value, words_of}
+use Rattle.sheet.specs.Sheet.{element_limit, elements_in_front, field_refusal, header_of, judge_sheet, read_words, sheet_length_refusal, sheet_refusal, short_refusal, value, value_refusal, words_of}
 use Rattle.sheet.proofs.BitLaws.{field-below}
+
+-- what each refusal that did not come says
+pub record Accepted (sheet : List ℕ) : Type 0 where
+  pub version : (header_of sheet).version ≡ 1
+  pub job : (header_of sheet).job < 2
+  pub limit : (header_of sheet).elements ≤ element_limit
+  pub exact : length sheet ≡ 6 + 8 * (header_of sheet).elements
+  pub values : value_refusal (header_of sheet).elements sheet ≡ none
+
+-- a sheet that is not refused
+pub accepted : (sheet : List ℕ) → sheet_refusal sheet ≡ none → Accepted sheet
+accepted sheet e =
+    let h = header_of sheet in
+    let long = sheet_length_refusal h.elements sheet in
+    let last = value_refusal h.elements sheet in
+    let fields = none-first (field_refusal h) (long ∷ last ∷ []) (none-first (short_refusal sheet) (field_refusal h ∷ long ∷ last ∷ []) e).1 in
+    let rest = none-first long (last ∷ []) fields.1 in
+    let job = cond (ltb h.job 2) none (Err BadHeader) in
+    let limit = cond (leb h.elements element_limit) none (Err BadHeader) in
+    let version = none-first (cond (eqb h.version 1) none (Err BadHeader)) (job ∷ limit ∷ []) fields.0 in
+    let others = none-first job (limit ∷ []) version.1 in
+    record {
+      version = eqb-true _ _ (passed (eqb h.version 1) BadHeader version.0);
+      job = ltb-true _ _ (passed (ltb h.job 2) BadHeader others.0);
+      limit = leb-true _ _ (passed (leb h.elements element_limit) BadHeader (none-first limit [] others.1).0);
+      exact = eqb-true _ _ (passed (eqb (length sheet) (6 + 8 * h.elements)) WrongSheetLength rest.0);
+      values = (none-first last [] rest.1).0;
+    }
 
 -- an answer is granted where nothing is refused, and it is that answer
 granted-ok : {A : Type 0} (j : Judgement) (a : A) {b : A} → Ok b ≡ granted j a → (j ≡ none) × (b ≡ a)
