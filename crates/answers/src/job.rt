@@ -1,11 +1,10 @@
 // What an accepted sheet asks for: the line of its digest, or the line of a draw.
-ghost use Rattle.std.specs.Prelude.{map, ◌≡◌, ◌^◌, ◌≤◌, ◌<◌, length};
+ghost use Rattle.std.specs.Prelude.{map, ◌≡◌, ◌≤◌, ◌<◌, length};
 ghost use Rattle.numbers.specs.Modulus.{P};
 ghost use Rattle.rounds.specs.Field.{Below, value_of};
 ghost use Rattle.refusals.specs.Judge.{none};
 ghost use Rattle.sponge.specs.Digest.{digest_of};
 ghost use Rattle.draws.specs.Answers.{draw_answer, in_front};
-ghost use Rattle.draws.specs.Draw.{draw};
 ghost use Rattle.lines.specs.Line.{digest_line};
 ghost use Rattle.lines.specs.Put.{Front};
 ghost use Rattle.answers.specs.Answer.{drawn_line, seeded_by};
@@ -19,7 +18,7 @@ use sheet::header::Header;
 use sponge::Tip5;
 use tip5::b_field_element::BFieldElement;
 
-// The value of a raw word.
+// The value of a raw word. A digest is public, and its words plain u64: a type for one below P is private to `tip5`.
 #[tactic(auto, using(refusals::proofs::JudgeLaws::below_accepted))]
 fn value(word: u64) -> u64
     requires { word < P }
@@ -29,6 +28,7 @@ fn value(word: u64) -> u64
 }
 
 // The header of an accepted sheet, and the raw words of its elements.
+// Nothing compares or prints it.
 #[derive(Clone, Copy)]
 pub(crate) struct Job<'a> {
     pub(crate) header: Header,
@@ -39,7 +39,7 @@ pub(crate) struct Job<'a> {
 }
 
 impl<'a> Job<'a> {
-    // The line by the job's number, since any byte may stand in a header: 0 is a digest, any other a draw.
+    // The line by the job's number, which `Header`, a public type that may hold any, has: 0 is a digest, any other a draw.
     pub(crate) fn line(&self, out: &mut [u8; 65536]) -> usize
         ensures { Front out.old (line_by self.now.header.job self.now.header self.now.words.now) out.new result }
     {

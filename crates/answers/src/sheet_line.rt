@@ -6,7 +6,8 @@ use crate::job::Job;
 use lines::refused_line;
 use sheet::read::read_sheet;
 
-/// A digest, a draw or a refusal, as one line at the front of the array; the rest of it stays.
+/// A digest, a draw or a refusal, as one line at the front of the array; the rest of it stays. Answers how many bytes the
+/// line has.
 pub fn sheet_line(sheet: &[u8], out: &mut [u8; 65536]) -> usize
     ensures { Front out.old (sheet_line sheet.now) out.new result }
 {

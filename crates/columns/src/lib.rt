@@ -40,6 +40,8 @@ impl<'a> Column<'a> {
     }
 }
 
+// The three calls on plain parameters are public, and docs/CONTRACTS.md names them: each is a view and its method.
+
 /// How many whole rows there are, as `Column::num_rows`.
 pub fn row_count(words: &[u64], stride: usize, offset: usize) -> Result<usize, Refusal>
     ensures { result ≡ row_count words.now stride offset }
@@ -63,8 +65,6 @@ pub fn entry(words: &[u64], stride: usize, offset: usize, row: usize) -> Result<
     }
     .get(row)
 }
-
-// Two names for one call: both are public, and docs/CONTRACTS.md names them.
 
 /// The word of a row, as `Column::get`.
 pub fn column_entry(words: &[u64], stride: usize, offset: usize, row: usize) -> Result<u64, Refusal>

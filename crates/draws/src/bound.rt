@@ -9,6 +9,7 @@ use std::marker::Model;
 use tip5::b_field_element::Value;
 
 // A bound that was judged: an index below it can be had. In clauses it is its number.
+// Nothing compares or prints it.
 #[derive(Clone, Copy)]
 pub(crate) struct Bound(u32);
 

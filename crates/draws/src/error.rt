@@ -1,4 +1,4 @@
-// Why a draw does not find all its indices.
+// The errors of a draw, and which refusal each is.
 ghost use Rattle.std.specs.Prelude.{◌≡◌};
 ghost use Rattle.draws.specs.declared.error.DrawError.TheVariants.{Refused};
 ghost use Rattle.draws.specs.Error.{refusal_of};

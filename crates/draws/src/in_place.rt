@@ -9,8 +9,8 @@ use refusals::judge::judge_words;
 use sponge::Tip5;
 
 /// Indices below a bound, a power of two from 1 to 2^31, until the slice is full or the allowance of squeezes is spent: how
-/// many squeezes are made. Refused for a bad word or a bound of another form nothing is drawn. Where the allowance is spent
-/// and indices are missing, those found stand in front, and the sponge has moved by the whole allowance.
+/// many squeezes are made. `Refused(BadWord)`, then `Refused(BadBound)`: nothing is drawn. `AllowanceSpent` where indices are
+/// missing after all squeezes: those found stand in front, and the sponge has moved by the whole allowance.
 #[tactic(auto, using(refusals::proofs::JudgeLaws::below_accepted, crate::proofs::SqueezeLaws::ten_below, crate::proofs::DrawingLaws::drawing_room, crate::proofs::DrawingLaws::drawing_short))]
 pub fn sample_indices(
     sponge: &mut Tip5,

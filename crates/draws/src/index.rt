@@ -12,7 +12,8 @@ use tip5::b_field_element::BFieldElement;
 // The value that draws nothing: P - 1.
 const SKIPPED: u64 = P - 1;
 
-// What a word draws is put at the front, if there is room: how many indices are put, none or one.
+// What a word draws is put at the front, if there is room: how many indices are put, none or one, as `put_indices` counts
+// them. The words of a squeezed ten are plain u64, as a squeeze answers them: a type for one below P is private to `tip5`.
 #[tactic(auto, using(crate::proofs::IndexLaws::put_nothing, crate::proofs::IndexLaws::put_no_room, crate::proofs::IndexLaws::put_one))]
 fn put_index(word: u64, bound: Bound, free: &mut [u32]) -> usize
     requires { word < P }

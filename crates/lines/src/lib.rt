@@ -5,7 +5,6 @@
 
 mod put;
 
-ghost use Rattle.std.specs.Prelude.{◌≡◌};
 ghost use Rattle.lines.specs.Line.{bounded_draw_line, digest_line, refused_line};
 ghost use Rattle.lines.specs.Put.{Front};
 
@@ -14,7 +13,7 @@ use put::{put, put_number};
 // The most indices that a line may have: a sheet can ask for no more.
 const INDEX_LIMIT: usize = 4095;
 
-// The line of a digest: its five values.
+/// The line of a digest: its five values. Answers how many bytes the line has.
 pub fn digest_line(values: &[u64; 5], out: &mut [u8; 65536]) -> usize
     ensures { Front out.old (digest_line values.now) out.new result }
 {
@@ -25,8 +24,9 @@ pub fn digest_line(values: &[u64; 5], out: &mut [u8; 65536]) -> usize
     at + put(b"\n", &mut out[at..])
 }
 
-// The line of a draw: its squeezes and its indices. For more of them than a line may have nothing is
-// written, and the answer is 0: a count and no Result, since this call has never failed.
+/// The line of a draw: its squeezes and its indices. Answers how many bytes the line has. For more
+/// indices than a line may have nothing is written, and the answer is 0: a count and no Result, since
+/// this call has never failed.
 #[tactic(auto, unfolding(crate::specs::Line::bounded_draw_line))]
 pub fn draw_line(squeezes: u64, indices: &[u32], out: &mut [u8; 65536]) -> usize
     ensures { Front out.old (bounded_draw_line squeezes indices.now) out.new result }
@@ -42,7 +42,8 @@ pub fn draw_line(squeezes: u64, indices: &[u32], out: &mut [u8; 65536]) -> usize
     at + put(b"\n", &mut out[at..])
 }
 
-// The line of a refusal: its number. A byte and no enum, which would ask more of callers.
+/// The line of a refusal: its number. A byte and no enum, which would ask more of callers. Answers how
+/// many bytes the line has.
 pub fn refused_line(refusal: u8, out: &mut [u8; 65536]) -> usize
     ensures { Front out.old (refused_line refusal) out.new result }
 {

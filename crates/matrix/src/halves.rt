@@ -1,6 +1,7 @@
 // The first layer: words eight places apart are added and subtracted, which cuts a cyclic product
 // of length sixteen into a cyclic and a negacyclic one of length eight. A line is a node of the Rust
-// function; one function that takes the operation would say more than the two, in no fewer lines.
+// function. One function over the operation would need a clause on what it answers for every two words,
+// more to read than eight plain lines twice.
 ghost use Rattle.std.specs.Prelude.{◌≡◌, ◌^◌};
 ghost use Rattle.numbers.specs.Linear.{times};
 ghost use Rattle.matrix.specs.Parts.{sums_matrix, differences_matrix};

@@ -1,5 +1,4 @@
--- A loop that fills a list from the front, one entry a turn: none filled, one more, all; the same by another rule. A loop that copies
--- words to a place of a list, one a turn: one more.
+-- A loop that fills a list from the front, one entry a turn: none filled, one more, all; the same by another rule.
 -- Assumes nothing.
 use mathlib.Core.List.{List}
 use mathlib.Core.Path.{◌≡◌, sym, ◌∙◌}
@@ -29,5 +28,3 @@ filled-all {f = f} {out = out} h e = sym (tab-unique out f h.long (λ k l. h.fro
 
 pub filled-same : {n : ℕ} {f g : ℕ → ℕ} {r : ℕ} {out : List ℕ} → Filled n f r out → ((k : ℕ) → k < r → f k ≡ g k) → Filled n g r out
 filled-same h e = record { within = h.within; long = h.long; front = λ k l. h.front k l ∙ e k l }
-
--- of the words s the first i were copied to place `at` of d: one word more

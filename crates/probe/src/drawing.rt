@@ -5,6 +5,7 @@ ghost use Rattle.probe.specs.Answers.{sponge_of};
 
 use draws::{DrawError, in_place};
 use refusals::Refusal;
+use refusals::refusal::number;
 use sponge::Tip5;
 
 // The refusal's number is returned, and both counts go to their places: zeros where nothing was drawn.
@@ -23,7 +24,7 @@ fn hand_out_counts(
     };
     match answer {
         Ok(_) => 0,
-        Err(error) => u32::from(u8::from(Refusal::from(error))),
+        Err(error) => number(Err(Refusal::from(error))),
     }
 }
 

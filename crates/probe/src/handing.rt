@@ -6,6 +6,7 @@ ghost use Rattle.probe.specs.Answers.{sponge_of};
 ghost use Rattle.tip5.specs.Element.{element_of};
 
 use refusals::Refusal;
+use refusals::refusal::number;
 use sponge::Tip5;
 use tip5::b_field_element::BFieldElement;
 
@@ -17,7 +18,7 @@ pub(crate) fn hand_out<T: Copy>(answer: Result<T, Refusal>, place: &mut T) -> u3
             *place = given;
             0
         }
-        Err(refusal) => u32::from(u8::from(refusal)),
+        Err(refusal) => number(Err(refusal)),
     }
 }
 

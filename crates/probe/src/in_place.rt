@@ -1,6 +1,6 @@
 // The calls that change a record in place. C lends sixteen words: a wrapper makes a record of them, lends that, and puts
 // its words back, so each promises what its namesake by value does.
-ghost use Rattle.std.specs.Prelude.{◌≡◌, length, replicate};
+ghost use Rattle.std.specs.Prelude.{◌≡◌, replicate};
 ghost use Rattle.refusals.specs.Number.{handed};
 ghost use Rattle.sponge.specs.Answers.{absorb, pad_and_absorb_all, squeeze, step_back};
 ghost use Rattle.probe.specs.Answers.{sponge_of};

@@ -16,7 +16,8 @@ pub(crate) fn starts() -> Tally {
     tally
 }
 
-// Step i of the chain: every even one absorbs a ten, every odd one squeezes.
+// Step i of the chain leads from state i to the next: every even one absorbs a ten, every odd one squeezes. By place, since
+// both states of a step stand in one table.
 pub(crate) fn steps() -> Tally {
     let mut tally = Tally::default();
     for i in 0..TENS.len() {

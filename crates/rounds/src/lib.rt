@@ -6,5 +6,5 @@ pub mod inverse_tables;
 mod stated;
 pub mod tables;
 
-// The modulus: 2^64 - 2^32 + 1.
+/// The modulus: 2^64 - 2^32 + 1.
 pub const P: u64 = 18446744069414584321;

@@ -1,4 +1,5 @@
-// Judging before a digest is written: a wrong shape, then the room, then a bad word.
+// Judging before a digest is written: a wrong shape, then the room, then a bad word. The sizes stand apart here, since there
+// is no table before all of this is judged.
 ghost use Rattle.std.specs.Prelude.{◌≡◌, ◌*◌, ◌<◌, OnOk, length};
 ghost use Rattle.refusals.specs.Judge.{length_refusal};
 ghost use Rattle.rows.specs.Rows.{digest_count, size_refusal, width_refusal};
@@ -19,7 +20,8 @@ pub(crate) fn judge_width(width: usize) -> Result<(), Refusal>
     }
 }
 
-// `WrongShape` where the words are not as many as the columns have. A product that no length reaches is another number.
+// `WrongShape` where the words are not as many as the columns have. A product that does not
+// fit is no length of a slice.
 pub(crate) fn judge_size(
     words: &[u64],
     columns: usize,

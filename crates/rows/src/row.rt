@@ -46,7 +46,7 @@ impl<'a> Table<'a> {
         }
     }
 
-    // The sponge that absorbed a padded row: it and the words were judged, so that no call is refused.
+    // The sponge that absorbed a padded row. Its words and the table's are below P, so no call is refused.
     #[tactic(auto, using(crate::proofs::RowLaws::ten_granted, crate::proofs::RowLaws::ten_more, crate::proofs::TableLaws::row_fits))]
     pub(crate) fn row_sponge(&self, row: usize) -> Tip5
         requires { row < self.now.rows }

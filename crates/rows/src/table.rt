@@ -3,6 +3,7 @@ ghost use Rattle.std.specs.Prelude.{◌≡◌, ◌*◌, ◌<◌, length};
 ghost use Rattle.rounds.specs.Field.{Below};
 
 // Columns one after another, each of `rows` entries of `width` words.
+// Nothing compares or prints it.
 #[derive(Clone, Copy)]
 pub(crate) struct Table<'a> {
     pub(crate) words: &'a [u64],

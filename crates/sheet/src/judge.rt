@@ -63,6 +63,7 @@ impl<'a> Sheet<'a> {
     fn judge_values(&self) -> Result<(), Refusal>
         ensures { result ≡ value_refusal (header_of self.now).elements self.now }
     {
+        // By place: an element is eight bytes of the sheet, and no iterator over bytes answers values.
         for i in 0..self.header.elements {
             if BFieldElement::P <= self.value(i) {
                 return Err(Refusal::BadWord);

@@ -6,6 +6,8 @@ use crate::header::Header;
 use crate::judge::Sheet;
 use refusals::Refusal;
 
+// An array with its length in the header, and no Vec: a library has no heap.
+
 /// The header of an accepted sheet, its words at the front of the array and the rest of it as it was. Refused as
 /// `judge_sheet`, with the array as it was.
 #[tactic(auto, unfolding(crate::specs::Sheet::read_words))]

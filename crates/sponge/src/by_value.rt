@@ -5,7 +5,7 @@ ghost use Rattle.sponge.specs.Answers.{absorb, pad_and_absorb_all, squeeze};
 use crate::Tip5;
 use refusals::Refusal;
 
-/// Words 0 to 9 are overwritten by ten words, then the permutation.
+/// Words 0 to 9 are overwritten by ten words, then the permutation. Refused as the call in place.
 pub fn absorb(sponge: Tip5, ten: &[u64]) -> Result<Tip5, Refusal>
     ensures { result ≡ absorb sponge ten.now }
 {
@@ -14,7 +14,7 @@ pub fn absorb(sponge: Tip5, ten: &[u64]) -> Result<Tip5, Refusal>
     Ok(next)
 }
 
-/// Words 0 to 9 as they were, then the permutation: the next sponge and the ten words.
+/// Words 0 to 9 as they were, then the permutation: the next sponge and the ten words. Refused as the call in place.
 pub fn squeeze(sponge: Tip5) -> Result<(Tip5, [u64; 10]), Refusal>
     ensures { result ≡ squeeze sponge }
 {
@@ -23,7 +23,7 @@ pub fn squeeze(sponge: Tip5) -> Result<(Tip5, [u64; 10]), Refusal>
     Ok((next, ten))
 }
 
-/// Every ten of the padded input is absorbed.
+/// Every ten of the padded input is absorbed. Refused as the call in place.
 pub fn pad_and_absorb_all(sponge: Tip5, input: &[u64]) -> Result<Tip5, Refusal>
     ensures { result ≡ pad_and_absorb_all sponge input.now }
 {

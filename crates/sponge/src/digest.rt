@@ -8,7 +8,7 @@ use refusals::Refusal;
 use refusals::judge::{judge_length, judge_words};
 
 impl Tip5 {
-    /// The digest of ten words.
+    /// The digest of ten words. `WrongLength` where they are not ten, then `BadWord`.
     #[tactic(auto, using(crate::proofs::StartLaws::ten_judged), unfolding(crate::specs::Digest::digest_of_ten))]
     pub fn hash_10(input: &[u64]) -> Result<[u64; 5], Refusal>
         ensures { result ≡ hash10 input.now }
@@ -18,7 +18,7 @@ impl Tip5 {
         Ok(sponge.digest())
     }
 
-    /// The digest of two digests.
+    /// The digest of two digests. `WrongLength` where they are not five words each, then `BadWord`.
     #[tactic(auto, using(crate::proofs::StartLaws::pair_judged), unfolding(crate::specs::Digest::digest_of_pair))]
     pub fn hash_pair(left: &[u64], right: &[u64]) -> Result<[u64; 5], Refusal>
         ensures { result ≡ hash_pair left.now right.now }
@@ -30,7 +30,7 @@ impl Tip5 {
         Tip5::hash_10(&joined(left, right))
     }
 
-    /// The digest of any number of words.
+    /// The digest of any number of words. `BadWord` where one is P or more.
     #[tactic(auto, using(crate::proofs::StartLaws::input_judged), unfolding(crate::specs::Digest::digest_of))]
     pub fn hash_varlen(input: &[u64]) -> Result<[u64; 5], Refusal>
         ensures { result ≡ hash_varlen input.now }

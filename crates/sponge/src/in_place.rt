@@ -14,7 +14,7 @@ use refusals::judge::{judge_length, judge_words};
 use tip5::permutation::permutation;
 
 impl Tip5 {
-    /// Words 0 to 9 are overwritten by ten words, then the permutation.
+    /// Words 0 to 9 are overwritten by ten words, then the permutation. `WrongLength` where they are not ten, then `BadWord`.
     #[tactic(auto, using(refusals::proofs::JudgeLaws::below_accepted, crate::proofs::SpongeLaws::overwrite_below), unfolding(crate::specs::Sponge::absorbed))]
     pub fn absorb(&mut self, ten: &[u64]) -> Result<(), Refusal>
         ensures { (result, self.new) ≡ leaving (absorb self.old ten.now) self.old }
@@ -24,7 +24,7 @@ impl Tip5 {
         self.permute()
     }
 
-    /// Every ten of the padded input is absorbed.
+    /// Every ten of the padded input is absorbed. `BadWord` where a word of the sponge or of the input is P or more.
     #[tactic(auto, using(refusals::proofs::JudgeLaws::below_accepted, crate::proofs::SpongeLaws::overwrite_below, crate::proofs::TensLaws::begins, crate::proofs::TensLaws::goes_on, crate::proofs::TensLaws::ends, crate::proofs::TensLaws::ten_below, crate::proofs::TensLaws::last_below), unfolding(crate::specs::Sponge::absorbed))]
     pub fn pad_and_absorb_all(&mut self, input: &[u64]) -> Result<(), Refusal>
         ensures { (result, self.new) ≡ leaving (pad_and_absorb_all self.old input.now) self.old }
@@ -40,7 +40,7 @@ impl Tip5 {
         self.permute()
     }
 
-    /// Words 0 to 9 as they were, then the permutation.
+    /// Words 0 to 9 as they were, then the permutation. `BadWord` where a word is P or more.
     #[tactic(auto, unfolding(crate::specs::Sponge::squeezed))]
     pub fn squeeze(&mut self) -> Result<[u64; 10], Refusal>
         ensures { (result, self.new) ≡ leaving_ten (squeeze self.old) self.old }

@@ -11,7 +11,8 @@ use refusals::Refusal;
 use refusals::judge::judge_length;
 use tip5::inverse::inv_permutation;
 
-/// The two kinds of steps: there is no third.
+/// The two kinds of steps: there is no third. The ten words stand beside both, since a call refuses another length beside a
+/// squeeze too.
 #[derive(Clone, Copy, Debug, PartialEq, Eq, Hash)]
 pub enum StepKind {
     Squeeze,
@@ -20,7 +21,7 @@ pub enum StepKind {
 
 impl Tip5 {
     /// One step back. Beside an absorb the ten words are those that it overwrote, put back as given; beside a squeeze any ten
-    /// stand there, and are not judged.
+    /// stand there, and are not judged. `WrongLength` where they are not ten, then `BadWord`.
     #[tactic(auto, using(refusals::proofs::JudgeLaws::below_accepted), unfolding(crate::specs::Sponge::unsqueezed, crate::specs::Sponge::unabsorbed))]
     pub fn step_back(&mut self, kind: StepKind, ten: &[u64]) -> Result<(), Refusal>
         ensures { (result, self.new) ≡ leaving (step_back kind self.old ten.now) self.old }
@@ -49,7 +50,7 @@ impl Tip5 {
     }
 }
 
-/// The sponge before the step, as the call in place leaves it.
+/// The sponge before the step, as the call in place leaves it. Refused as that is.
 pub fn step_back(kind: StepKind, sponge: Tip5, ten: &[u64]) -> Result<Tip5, Refusal>
     ensures { result ≡ step_back kind sponge ten.now }
 {

@@ -16,10 +16,13 @@ pub struct Value(pub u64);
 pub struct BFieldElement(pub u64);
 
 impl BFieldElement {
+    /// The modulus.
     pub const P: u64 = rounds::P;
 
+    /// The element of value 0.
     pub const ZERO: BFieldElement = BFieldElement(0);
 
+    /// The element of value 1.
     pub const ONE: BFieldElement = BFieldElement(4294967295);
 
     /// The element of a value, which is taken modulo P.
@@ -29,14 +32,14 @@ impl BFieldElement {
         Element::new(value.0).into()
     }
 
-    /// The element whose raw word is given.
+    /// The element whose raw word is given. `BadWord` where it is P or more.
     pub fn from_raw_u64(word: u64) -> Result<BFieldElement, Refusal>
         ensures { result ≡ from_raw word }
     {
         Ok(Element::try_from(BFieldElement(word))?.into())
     }
 
-    /// The raw word of an element.
+    /// The raw word of an element. `BadWord` where it is P or more.
     pub fn raw_u64(self) -> Result<u64, Refusal>
         ensures { result ≡ raw_word self }
     {
@@ -44,13 +47,14 @@ impl BFieldElement {
         Ok(element.0)
     }
 
-    /// The value of an element, below P.
+    /// The value of an element, below P. `BadWord` where its word is P or more.
     pub fn value(self) -> Result<Value, Refusal>
         ensures { result ≡ value self }
     {
         Ok(Value(Element::try_from(self)?.value()))
     }
 
+    /// The sum. `BadWord` where a word is P or more.
     pub fn add(self, rhs: BFieldElement) -> Result<BFieldElement, Refusal>
         ensures { result ≡ sum self rhs }
     {
@@ -58,6 +62,7 @@ impl BFieldElement {
         Ok(sum.into())
     }
 
+    /// The difference. `BadWord` where a word is P or more.
     pub fn sub(self, rhs: BFieldElement) -> Result<BFieldElement, Refusal>
         ensures { result ≡ difference self rhs }
     {
@@ -65,6 +70,7 @@ impl BFieldElement {
         Ok(difference.into())
     }
 
+    /// The product. `BadWord` where a word is P or more.
     pub fn mul(self, rhs: BFieldElement) -> Result<BFieldElement, Refusal>
         ensures { result ≡ product self rhs }
     {
@@ -72,7 +78,8 @@ impl BFieldElement {
         Ok(product.into())
     }
 
-    /// The element to the power of any exponent; to the power of 0 it is ONE.
+    /// The element to the power of any exponent; to the power of 0 it is ONE. `BadWord` where its word is P or
+    /// more.
     pub fn mod_pow(self, exponent: u64) -> Result<BFieldElement, Refusal>
         ensures { result ≡ mod_pow self exponent }
     {

@@ -19,6 +19,7 @@ const R_INVERSE: u64 = 18446744065119617025;
 
 const R2: u64 = 18446744065119617025;
 
+// Nothing compares or prints it.
 #[derive(Clone, Copy)]
 pub(crate) struct Element(pub(crate) u64);
 
@@ -196,6 +197,7 @@ pub(crate) fn judged(words: [u64; 16]) -> Result<[Element; 16], Refusal>
 {
     judge_words(&words)?;
     let mut state = [Element::ZERO; 16];
+    // By place: by `map` the bound of each word stays open.
     for i in 0..16 {
         state[i] = Element(words[i]);
     }

@@ -29,14 +29,16 @@ fn inv_permuted(mut state: [Element; 16]) -> [Element; 16]
     state
 }
 
-/// The state five rounds ago.
+// As in `permutation` a public call is two lines: a function over the way would be longer.
+
+/// The state five rounds ago. `BadWord` where a word is P or more.
 pub fn inv_permutation(state: [u64; 16]) -> Result<[u64; 16], Refusal>
     ensures { result ≡ inv_permutation state }
 {
     Ok(raw_words(inv_permuted(judged(state)?)))
 }
 
-/// The state before one round, 0 to 4.
+/// The state before one round. `NoSuchRound` for a round over 4, then `BadWord`.
 pub fn inv_round(round: usize, state: [u64; 16]) -> Result<[u64; 16], Refusal>
     ensures { result ≡ inv_one_round round state }
 {

@@ -1,4 +1,4 @@
-// The layers of a round undone.
+// The layers of a round undone. Its loops go by place, since a word's place says what is done to it.
 ghost use Rattle.std.specs.Prelude.{◌≡◌, ◌%◌, ◌<◌};
 ghost use Rattle.numbers.specs.Circulant.{row_sum};
 ghost use Rattle.numbers.specs.Modulus.{P};

@@ -1,5 +1,5 @@
-// The layers of a fast round.
-ghost use Rattle.std.specs.Prelude.{◌≡◌, ◌+◌, ◌*◌, ◌/◌, ◌^◌, ◌<◌, ℕ, get_or};
+// The layers of a fast round. Its loops go by place, since a word's place says what is done to it.
+ghost use Rattle.std.specs.Prelude.{◌≡◌, ◌+◌, ◌*◌, ◌/◌, ◌^◌, ◌<◌, ℕ};
 ghost use Rattle.numbers.specs.Circulant.{row_sum};
 ghost use Rattle.numbers.specs.Lists.{tab};
 ghost use Rattle.matrix.specs.Column.{mds_column};

@@ -29,14 +29,14 @@ fn permuted(mut state: [Element; 16]) -> [Element; 16]
     state
 }
 
-/// The state after five rounds.
+/// The state after five rounds. `BadWord` where a word is P or more.
 pub fn permutation(state: [u64; 16]) -> Result<[u64; 16], Refusal>
     ensures { result ≡ Permutation.permutation state }
 {
     Ok(raw_words(permuted(judged(state)?)))
 }
 
-/// The state after one round, 0 to 4.
+/// The state after one round. `NoSuchRound` for a round over 4, then `BadWord`.
 pub fn round(round: usize, state: [u64; 16]) -> Result<[u64; 16], Refusal>
     ensures { result ≡ one_round round state }
 {

@@ -21,7 +21,7 @@ pub(crate) fn inv_lookup(byte: u8) -> u8
 }
 
 // What a round adds to word r. The five functions that take a round ask for one below 5, which a loop or `judge_round` gives
-// them: a type for it would be made and taken apart at each, and say no more.
+// them: a type for it would be made in both loops and after both judgings, to save one clause at each of the five.
 pub(crate) fn constant(round: usize, r: usize) -> Element
     requires { (round < 5) × (r < 16) }
     ensures { result ≡ constant round r }

@@ -35,7 +35,8 @@ fn moved<F: FnOnce([u64; 16]) -> Result<[u64; 16], Refusal>>(
     Ok(())
 }
 
-/// The permutation.
+/// The permutation of 128 bytes in place. 0, or the number of `WrongLength` where there are not 128,
+/// then of `BadWord`; refused bytes stay as they are.
 pub fn tip5_permutation(state: &mut [u8]) -> u32
     ensures value { result ≡ number (bytes_refusal state.old) }
     ensures state_after { state.new ≡ after permuted state.old }
@@ -44,7 +45,6 @@ pub fn tip5_permutation(state: &mut [u8]) -> u32
 }
 
 /// The inverse permutation of 128 bytes in place, refused as `tip5_permutation` is.
-/// The inverse permutation.
 pub fn tip5_inverse_permutation(state: &mut [u8]) -> u32
     ensures value { result ≡ number (bytes_refusal state.old) }
     ensures state_after { state.new ≡ after inv_permuted state.old }

@@ -9,6 +9,7 @@ ghost use Rattle.rounds.specs.Round.{permuted};
 ghost use Rattle.refusals.specs.Number.{number};
 ghost use Rattle.tip5_c.specs.Export.{after, bytes_refusal};
 
+/// `tip5_c::tip5_permutation` for C.
 #[unsafe(no_mangle)]
 pub extern "C" fn tip5_permutation(state: &mut [u8]) -> u32
     ensures value { result ≡ number (bytes_refusal state.old) }
@@ -17,6 +18,7 @@ pub extern "C" fn tip5_permutation(state: &mut [u8]) -> u32
     tip5_c::tip5_permutation(state)
 }
 
+/// `tip5_c::tip5_inverse_permutation` for C.
 #[unsafe(no_mangle)]
 pub extern "C" fn tip5_inverse_permutation(state: &mut [u8]) -> u32
     ensures value { result ≡ number (bytes_refusal state.old) }
