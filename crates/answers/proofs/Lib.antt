@@ -1,4 +1,3 @@
 -- The laws of this crate's definitions.
-mod DrawnLaws
-mod SheetLineLaws
-mod WordsLaws
+pub mod DrawnLaws
+pub mod SheetLineLaws

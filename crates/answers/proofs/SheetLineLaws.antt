@@ -2,42 +2,55 @@
 -- Assumes nothing.
 use mathlib.Core.List.{List}
 use mathlib.Core.Path.{◌≡◌, refl, ap, sym, ◌∙◌}
-use Prim.Native.Nat.{ℕ, zero, suc, ◌^◌}
-use Rattle.refusals.proofs.UnlessLaws.{unless-granted, unless-refused}
-use Rattle.draws.specs.Draw.{draw}
+use Prim.Native.Nat.{ℕ, zero, suc}
+use lib.ListN.{take}
+use Rattle.std.specs.Prelude.{Result, Ok, Err}
+use Rattle.rounds.specs.Field.{Below}
+use Rattle.refusals.specs.declared.refusal.Refusal.{Refusal}
+use Rattle.refusals.specs.Judge.{Judgement, granted, unless}
+use Rattle.refusals.specs.Number.{number, number_of}
+use Rattle.refusals.proofs.JudgeLaws.{accepted_below}
+use Rattle.sponge.specs.Digest.{digest_of}
+use Rattle.sponge.proofs.DigestLaws.{digest_of-below}
 use Rattle.lines.specs.Line.{refused_line}
 use Rattle.sheet.specs.declared.header.Header.{Header}
-use Rattle.sheet.specs.declared.header.HeaderAnswer.{HeaderAnswer}
-use Rattle.sheet.specs.Sheet.{header_of, judge_sheet, sheet_refusal, words_of}
-use Rattle.sheet.proofs.JudgedLaws.{judged-header, judged-refusal}
-use Rattle.answers.specs.Answer.{digest_values, drawn_line, elements_of, job_line, seed_of, seeded_by, sheet_draw, sheet_line}
+use Rattle.sheet.specs.Sheet.{header_of, judge_sheet, read_words, sheet_refusal, words_of}
+use Rattle.sheet.proofs.JudgedLaws.{judged_good, judged_header, words_accepted, words_in_front}
+use Rattle.answers.specs.Answer.{digest_values, elements_of, job_line, seed_of, sheet_draw, sheet_line}
 use Rattle.answers.specs.Job.{line_by}
 
-pub line-refused : (sheet : List ℕ) {a : HeaderAnswer} → a ≡ judge_sheet sheet → (a.refusal ≡ 0 → ⊥) → refused_line a.refusal ≡ sheet_line sheet
-unfolding sheet_line
-line-refused sheet e bad =
-    ap refused_line (judged-refusal sheet e)
-    ∙ sym (unless-refused (sheet_refusal sheet) (job_line (header_of sheet).job sheet) (refused_line (sheet_refusal sheet)) (λ z. bad (judged-refusal sheet e ∙ z)))
+-- the words of a digest are below P
+pub digest_below : (words : List ℕ) → Below (digest_of words)
+digest_below words = digest_of-below words
 
-line-granted : (sheet : List ℕ) → sheet_refusal sheet ≡ 0 → sheet_line sheet ≡ job_line (header_of sheet).job sheet
-unfolding sheet_line
-line-granted sheet good = unless-granted (job_line (header_of sheet).job sheet) (refused_line (sheet_refusal sheet)) good
+-- refused
 
--- an accepted sheet, in the numbers of the judged header and the words of its elements
+pub line-refused : (sheet : List ℕ) {refusal : Refusal} {n : ℕ} → Err refusal ≡ judge_sheet sheet → n ≡ number_of refusal → refused_line n ≡ sheet_line sheet
+unfolding sheet_line
+line-refused sheet {refusal} e number-is = ap refused_line number-is ∙ go (sheet_refusal sheet) e
+  where
+    go : (j : Judgement) → ◌≡◌ {A = Result Header Refusal} (Err refusal) (granted j (header_of sheet))
+        → refused_line (number_of refusal) ≡ unless j (job_line (header_of sheet).job sheet) (refused_line (number j))
+    go (Ok done) h = absurd (cc)
+    go (Err other) h =
+        let same : refusal ≡ other = cc in
+        ap (λ (r : Refusal). refused_line (number_of r)) same
+
+-- accepted, in the numbers of the judged header and the words of its elements
 
 by-job : (j : ℕ) (sheet : List ℕ) → line_by j (header_of sheet) (words_of (header_of sheet).elements sheet) ≡ job_line j sheet
 unfolding digest_values sheet_draw seed_of elements_of
 by-job zero sheet = refl
 by-job (suc j) sheet = refl
 
-pub line-by : (sheet : List ℕ) {a : HeaderAnswer} → a ≡ judge_sheet sheet → a.refusal ≡ 0
-    → line_by a.header.job a.header (words_of a.header.elements sheet) ≡ sheet_line sheet
-line-by sheet e good =
-    ap (λ (h : Header). line_by h.job h (words_of h.elements sheet)) (judged-header sheet e good)
-    ∙ by-job (header_of sheet).job sheet ∙ sym (line-granted sheet (sym (judged-refusal sheet e) ∙ good))
+module _ (sheet before : List ℕ) {header : Header} {words : List ℕ} (judged : Ok header ≡ judge_sheet sheet) (read : words ≡ read_words sheet before) where
+  pub words-below : Below (take header.elements words)
+  words-below = accepted_below (take header.elements words) (words_accepted sheet judged before read)
 
--- any job but 0 is a draw
-pub by-draw : (j : ℕ) (h : Header) (words : List ℕ) → (j ≡ 0 → ⊥)
-    → drawn_line h.indices (draw (2 ^ h.log2) h.allowance h.indices (seeded_by words)) ≡ line_by j h words
-by-draw zero h words draws = absurd (draws refl)
-by-draw (suc j) h words draws = refl
+  pub line-accepted : line_by header.job header (take header.elements words) ≡ sheet_line sheet
+  unfolding sheet_line
+  line-accepted =
+      ap (line_by header.job header) (words_in_front sheet judged before read)
+      ∙ ap (λ (h : Header). line_by h.job h (words_of h.elements sheet)) (judged_header sheet judged)
+      ∙ by-job (header_of sheet).job sheet
+      ∙ sym (ap (λ (j : Judgement). unless j (job_line (header_of sheet).job sheet) (refused_line (number j))) (judged_good sheet judged))

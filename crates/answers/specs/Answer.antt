@@ -2,6 +2,7 @@
 use Rattle.std.specs.Prelude.{cond, List, map, ℕ, zero, suc, ◌^◌, ltb, length}
 use Rattle.rounds.specs.Field.{value_of}
 use Rattle.refusals.specs.Judge.{unless}
+use Rattle.refusals.specs.Number.{number}
 use Rattle.sponge.specs.declared.Domain.TheVariants.{VariableLength}
 use Rattle.sponge.specs.declared.Tip5.{Tip5}
 use Rattle.sponge.specs.Digest.{digest_of}
@@ -42,4 +43,4 @@ job_line (suc j) sheet = drawn_line (header_of sheet).indices (sheet_draw sheet)
 
 -- the line that any bytes give
 unfoldable pub sheet_line : (sheet : List ℕ) → List ℕ
-sheet_line sheet = unless (sheet_refusal sheet) (job_line (header_of sheet).job sheet) (refused_line (sheet_refusal sheet))
+sheet_line sheet = unless (sheet_refusal sheet) (job_line (header_of sheet).job sheet) (refused_line (number (sheet_refusal sheet)))

@@ -1,4 +1,3 @@
 -- What the calls of this crate answer.
 pub mod Answer
-pub mod Drawn
 pub mod Job

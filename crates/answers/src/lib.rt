@@ -1,5 +1,5 @@
 // What a sheet gives: a digest, a draw or a refusal, as one line.
 #![tactic(auto)]
 
-mod answer;
+mod job;
 pub mod sheet_line;

@@ -1,3 +1,2 @@
--- The laws of this crate's definitions, and what a view owes of its parts.
-pub mod ColumnLaws
+-- What a view owes of its parts.
 pub mod ViewLaws

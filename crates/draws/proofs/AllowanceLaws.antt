@@ -1,20 +1,21 @@
 -- A larger allowance: it never alters an index that is found, and it changes nothing at all where none is missing.
 -- Assumes nothing.
 use mathlib.Core.Bool.{Bool, true, false, cond}
-use mathlib.Core.List.{List, [], ◌∷◌, ◌++◌, append_assoc}
+use mathlib.Core.List.{List, [], ◌++◌, append_assoc}
 use mathlib.Core.Path.{◌≡◌, refl, ap, sym, ◌∙◌}
-use Prim.Native.Nat.{ℕ, zero, suc, ◌+◌, ◌-◌, ◌≤◌, ◌<◌}
+use Prim.Native.Nat.{ℕ, ◌+◌, ◌-◌, ◌≤◌, ◌<◌}
 use native.Mathlib.Decide.{dec_le}
 use native.Mathlib.Omega.{arith}
 use borrow.Author.Tests.{ltb-false, ltb-true}
 use lib.Dec.{ltb}
 use lib.ListN.{drop, length, take}
 use lib.Seq.{take-append_seam}
-use Rattle.refusals.specs.Judge.{all_below, first, unless}
-use Rattle.refusals.proofs.RefusalLaws.{none-first}
+use Rattle.std.specs.Prelude.{Ok, Err}
+use Rattle.refusals.specs.declared.refusal.Refusal.{Refusal}
+use Rattle.refusals.specs.Judge.{Judgement, none, unless}
 use Rattle.sponge.specs.declared.Tip5.{Tip5}
-use Rattle.draws.specs.Answers.{draw_refusal, drawn, found_refusal, sample_indices, sampled_slice}
-use Rattle.draws.specs.Bound.{power_below}
+use Rattle.draws.specs.declared.error.DrawError.TheVariants.{Refused, AllowanceSpent}
+use Rattle.draws.specs.Answers.{draw_answer, draw_refusal, drawn, sample_indices, sampled_slice}
 use Rattle.draws.specs.Draw.{Draw, draw, joined, nothing}
 use Rattle.draws.proofs.DrawLaws.{draw-add, draw-missing, draw-none, joined-nothing}
 
@@ -43,13 +44,13 @@ pub drawn-front : (s : Tip5) (bound : ℕ) {a b : ℕ} (wanted : ℕ) → a ≤ 
     → (more : List ℕ) × ((drawn s bound b wanted).indices ≡ (drawn s bound a wanted).indices ++ more)
 drawn-front s bound {a} {b} wanted h = go (draw_refusal s bound)
   where
-    go : (n : ℕ) → (more : List ℕ) × ((unless n (draw bound b wanted s) (nothing s)).indices ≡ (unless n (draw bound a wanted s) (nothing s)).indices ++ more)
-    go zero = (_, ap (λ (d : Draw). d.indices) (draw-goes-on bound wanted s h))
-    go (suc n) = ([], refl)
+    go : (j : Judgement) → (more : List ℕ) × ((unless j (draw bound b wanted s) (nothing s)).indices ≡ (unless j (draw bound a wanted s) (nothing s)).indices ++ more)
+    go (Ok done) = (_, ap (λ (d : Draw). d.indices) (draw-goes-on bound wanted s h))
+    go (Err refusal) = ([], refl)
 
 -- so the entries of the lent slice that were found stay
 pub larger-allowance : (s : Tip5) (bound : ℕ) {a b : ℕ} (before : List ℕ) → a ≤ b
-    → (let found = (sample_indices s bound a (length before)).found in take found (sampled_slice s bound b before) ≡ take found (sampled_slice s bound a before))
+    → (let found = length (drawn s bound a (length before)).indices in take found (sampled_slice s bound b before) ≡ take found (sampled_slice s bound a before))
 larger-allowance s bound {a} {b} before h =
     let few = (drawn s bound a (length before)).indices in
     let many = (drawn s bound b (length before)).indices in
@@ -59,31 +60,34 @@ larger-allowance s bound {a} {b} before h =
     ∙ take-append_seam few (front.0 ++ drop (length many) before)
     ∙ sym (take-append_seam few (drop (length few) before))
 
--- a test that refuses with 6
-tested : {wanted found : ℕ} (t : Bool) → ltb found wanted ≡ t → ◌≡◌ {A = ℕ} (cond t 6 0) 0 → wanted ≤ found
-tested true e h = absurd (omega arith)
-tested {wanted} {found} false e h = ltb-false found wanted e
+-- a call that is not refused found all that was wanted, and answers its squeezes
+pub accepted-all : (s : Tip5) (bound a wanted : ℕ) {squeezes : ℕ} → (sample_indices s bound a wanted).0 ≡ Ok squeezes
+    → (draw_refusal s bound ≡ none) × (wanted ≤ length (drawn s bound a wanted).indices) × (squeezes ≡ (drawn s bound a wanted).squeezes)
+accepted-all s bound a wanted e = go (draw_refusal s bound) (drawn s bound a wanted) e
+  where
+    tested : (b : Bool) (d : Draw) {n : ℕ} → ltb (length d.indices) wanted ≡ b → cond b (Err (AllowanceSpent (length d.indices) d.squeezes)) (Ok d.squeezes) ≡ Ok n
+        → (wanted ≤ length d.indices) × (n ≡ d.squeezes)
+    tested true d t h = absurd (cc)
+    tested false d t h = (ltb-false (length d.indices) wanted t, cc)
 
--- a call that is not refused found all that was wanted
-pub accepted-all : (s : Tip5) (bound a wanted : ℕ) → (sample_indices s bound a wanted).refusal ≡ 0 → (draw_refusal s bound ≡ 0) × (wanted ≤ length (drawn s bound a wanted).indices)
-accepted-all s bound a wanted e =
-    let found = length (drawn s bound a wanted).indices in
-    let both = none-first (draw_refusal s bound) (found_refusal wanted found ∷ []) e in
-    (both.0, tested (ltb found wanted) refl (none-first (found_refusal wanted found) [] both.1).0)
+    go : (j : Judgement) (d : Draw) {n : ℕ} → draw_answer j wanted d ≡ Ok n → (j ≡ none) × (wanted ≤ length d.indices) × (n ≡ d.squeezes)
+    go (Ok done) d h = let t = tested (ltb (length d.indices) wanted) d refl h in (refl, t.0, t.1)
+    go (Err refusal) d h = absurd (cc)
 
 -- and with a larger allowance it draws the same
-pub accepted-larger : (s : Tip5) (bound : ℕ) {a b : ℕ} (wanted : ℕ) → a ≤ b → (sample_indices s bound a wanted).refusal ≡ 0 → drawn s bound b wanted ≡ drawn s bound a wanted
+pub accepted-larger : (s : Tip5) (bound : ℕ) {a b : ℕ} (wanted : ℕ) {squeezes : ℕ} → a ≤ b → (sample_indices s bound a wanted).0 ≡ Ok squeezes
+    → drawn s bound b wanted ≡ drawn s bound a wanted
 accepted-larger s bound {a} {b} wanted h e =
-    let both = accepted-all s bound a wanted e in
-    go (draw_refusal s bound) both.0 both.1
+    let all = accepted-all s bound a wanted e in
+    go (draw_refusal s bound) all.0 all.1
   where
-    go : (n : ℕ) → n ≡ 0 → wanted ≤ length (unless n (draw bound a wanted s) (nothing s)).indices
-        → unless n (draw bound b wanted s) (nothing s) ≡ unless n (draw bound a wanted s) (nothing s)
-    go zero none all = draw-enough bound wanted s h all
-    go (suc n) none all = refl
+    go : (j : Judgement) → j ≡ none → wanted ≤ length (unless j (draw bound a wanted s) (nothing s)).indices
+        → unless j (draw bound b wanted s) (nothing s) ≡ unless j (draw bound a wanted s) (nothing s)
+    go (Ok done) accepted all = draw-enough bound wanted s h all
+    go (Err refusal) accepted all = refl
 
 -- so every allowance that is enough gives the same draw
-pub accepted-same : (s : Tip5) (bound a b wanted : ℕ) → (sample_indices s bound a wanted).refusal ≡ 0 → (sample_indices s bound b wanted).refusal ≡ 0
+pub accepted-same : (s : Tip5) (bound a b wanted : ℕ) {m n : ℕ} → (sample_indices s bound a wanted).0 ≡ Ok m → (sample_indices s bound b wanted).0 ≡ Ok n
     → drawn s bound a wanted ≡ drawn s bound b wanted
 accepted-same s bound a b wanted ea eb = go (dec_le a b)
   where
@@ -91,22 +95,35 @@ accepted-same s bound a b wanted ea eb = go (dec_le a b)
     go (yes h) = sym (accepted-larger s bound wanted h ea)
     go (no h) = accepted-larger s bound wanted (omega arith) eb
 
--- Refusal 6: indices are missing, and the whole allowance is spent
+-- Refusals: the sponge or the bound, and nothing is drawn
 
-only-six : (words bound missing : Bool) → first (first (cond words 0 1 ∷ cond bound 0 3 ∷ []) ∷ cond missing 6 0 ∷ []) ≡ 6
-    → (first (cond words 0 1 ∷ cond bound 0 3 ∷ []) ≡ 0) × (missing ≡ true)
-only-six true true true e = (refl, refl)
-only-six true true false e = absurd (omega arith)
-only-six true false missing e = absurd (omega arith)
-only-six false bound missing e = absurd (omega arith)
-
-pub refused-six : (s : Tip5) (bound a wanted : ℕ) → (sample_indices s bound a wanted).refusal ≡ 6
-    → ((sample_indices s bound a wanted).found < wanted) × ((sample_indices s bound a wanted).squeezes ≡ a)
-refused-six s bound a wanted e =
-    let both = only-six (all_below s.state) (power_below 32 bound) (ltb (length (drawn s bound a wanted).indices) wanted) e in
-    let missing = ltb-true (length (drawn s bound a wanted).indices) wanted both.1 in
-    (missing, go (draw_refusal s bound) both.0 missing)
+pub refused-nothing : (s : Tip5) (bound a wanted : ℕ) {refusal : Refusal} → (sample_indices s bound a wanted).0 ≡ Err (Refused refusal)
+    → (draw_refusal s bound ≡ Err refusal) × (drawn s bound a wanted ≡ nothing s)
+refused-nothing s bound a wanted e = go (draw_refusal s bound) (draw bound a wanted s) e
   where
-    go : (n : ℕ) → n ≡ 0 → length (unless n (draw bound a wanted s) (nothing s)).indices < wanted → (unless n (draw bound a wanted s) (nothing s)).squeezes ≡ a
-    go zero none h = draw-missing bound a wanted s h
-    go (suc n) none h = absurd (omega arith)
+    tested : (b : Bool) (d : Draw) {refusal : Refusal} → cond b (Err (AllowanceSpent (length d.indices) d.squeezes)) (Ok d.squeezes) ≡ Err (Refused refusal) → ⊥
+    tested true d h = cc
+    tested false d h = cc
+
+    go : (j : Judgement) (d : Draw) {refusal : Refusal} → draw_answer j wanted (unless j d (nothing s)) ≡ Err (Refused refusal) → (j ≡ Err refusal) × (unless j d (nothing s) ≡ nothing s)
+    go (Ok done) d h = absurd (tested (ltb (length d.indices) wanted) d h)
+    go (Err refusal) d h = (cc, refl)
+
+-- Indices are missing, and the whole allowance is spent
+
+pub refused-six : (s : Tip5) (bound a wanted : ℕ) {found squeezes : ℕ} → (sample_indices s bound a wanted).0 ≡ Err (AllowanceSpent found squeezes)
+    → (found ≡ length (drawn s bound a wanted).indices) × (squeezes ≡ (drawn s bound a wanted).squeezes) × (found < wanted) × (squeezes ≡ a)
+refused-six s bound a wanted e = go (draw_refusal s bound) e
+  where
+    tested : (b : Bool) (d : Draw) {found squeezes : ℕ} → ltb (length d.indices) wanted ≡ b → cond b (Err (AllowanceSpent (length d.indices) d.squeezes)) (Ok d.squeezes) ≡ Err (AllowanceSpent found squeezes)
+        → (found ≡ length d.indices) × (squeezes ≡ d.squeezes) × (length d.indices < wanted)
+    tested true d t h = (cc, cc, ltb-true (length d.indices) wanted t)
+    tested false d t h = absurd (cc)
+
+    go : (j : Judgement) {found squeezes : ℕ} → (let d = unless j (draw bound a wanted s) (nothing s) in draw_answer j wanted d ≡ Err (AllowanceSpent found squeezes)
+        → (found ≡ length d.indices) × (squeezes ≡ d.squeezes) × (found < wanted) × (squeezes ≡ a))
+    go (Ok done) h =
+        let d = draw bound a wanted s in
+        let t = tested (ltb (length d.indices) wanted) d refl h in
+        (t.0, t.1, omega (arith, t.0, t.2), t.1 ∙ draw-missing bound a wanted s t.2)
+    go (Err refusal) h = absurd (cc)

@@ -8,7 +8,8 @@ use native.Mathlib.Nat.{mod-lt}
 use lib.Dec.{eqb}
 use lib.ListN.{length, take}
 use Rattle.rounds.specs.Field.{value_of}
-use Rattle.refusals.specs.Judge.{unless}
+use Rattle.std.specs.Prelude.{Ok, Err}
+use Rattle.refusals.specs.Judge.{Judgement, unless}
 use Rattle.sponge.specs.declared.Tip5.{Tip5}
 use Rattle.sponge.specs.Sponge.{rate, squeezed}
 use Rattle.draws.specs.Answers.{draw_refusal, drawn}
@@ -64,6 +65,6 @@ draw-under bound (suc a) (suc n) s h =
 pub drawn-under : (s : Tip5) (bound allowance wanted : ℕ) → AllUnder bound (drawn s bound allowance wanted).indices
 drawn-under s bound allowance wanted = go (draw_refusal s bound) refl
   where
-    go : (n : ℕ) → draw_refusal s bound ≡ n → AllUnder bound (unless n (draw bound allowance wanted s) (nothing s)).indices
-    go zero e = draw-under bound allowance wanted s (power-positive (accepted-draw s bound allowance e).0)
-    go (suc n) e = tt
+    go : (j : Judgement) → draw_refusal s bound ≡ j → AllUnder bound (unless j (draw bound allowance wanted s) (nothing s)).indices
+    go (Ok done) e = draw-under bound allowance wanted s (power-positive (accepted-draw s bound allowance e).0)
+    go (Err refusal) e = tt

@@ -1,15 +1,22 @@
--- The laws of bounds: a bound is accepted if and only if it is 2 ^ k for some k below 32, and then it is not 0.
+-- The laws of bounds: a bound is accepted if and only if it is 2 ^ k for some k below 32, and then it is not 0. Code looks whether
+-- one bit of it is set.
 -- Assumes nothing.
-use mathlib.Core.Bool.{Bool, true, false, cond, true≢false}
+use mathlib.Core.Bool.{true, false, true≢false}
 use mathlib.Core.Path.{◌≡◌, refl, ap, sym, ◌∙◌}
-use Prim.Native.Nat.{ℕ, zero, suc, ◌+◌, ◌^◌, ◌<◌}
-use native.Mathlib.Decide.{ℕ_discrete}
+use Prim.Native.Nat.{ℕ, zero, suc, ◌+◌, ◌-◌, ◌*◌, ◌^◌, ◌<◌}
+use native.Mathlib.Decide.{dec_lt, ℕ_discrete}
 use native.Mathlib.Nat.{le_of_suc-le-suc}
 use native.Mathlib.Omega.{arith}
 use borrow.Author.Tests.{eq-eqb, ne_eqb}
 use lib.Arith.{lt_of_le-ne}
+use lib.Count.{ones}
 use lib.Pow.{pow_pos}
-use Rattle.numbers.proofs.Tests.{passed}
+use Rattle.std.specs.Prelude.{Result, Ok, Err}
+use Rattle.std.proofs.lemmas.Nat.{ones_cat, zero_from_ones}
+use Rattle.refusals.specs.declared.refusal.Refusal.{Refusal}
+use Rattle.refusals.specs.declared.refusal.Refusal.TheVariants.{BadBound}
+use Rattle.refusals.specs.Judge.{Judgement, granted, none}
+use Rattle.refusals.proofs.JudgeLaws.{passed, refused, refused-not-none}
 use Rattle.draws.specs.Bound.{bound_refusal, power_below}
 
 -- the bound is 2 ^ k, and k is below n
@@ -63,13 +70,76 @@ test-power (suc n) bound t = go (ℕ_discrete bound (2 ^ n)) (test-power n bound
 
 -- What is accepted
 
-pub accepted-bound : (bound : ℕ) → bound_refusal bound ≡ 0 → Power 32 bound
-accepted-bound bound e = test-power 32 bound (passed (power_below 32 bound) 2 e)
+pub accepted-bound : (bound : ℕ) → bound_refusal bound ≡ none → Power 32 bound
+accepted-bound bound e = test-power 32 bound (passed (power_below 32 bound) BadBound e)
 
-pub bound-accepted : (bound : ℕ) → Power 32 bound → bound_refusal bound ≡ 0
-bound-accepted bound p = ap (λ (b : Bool). cond b 0 3) (power-test 32 bound p)
+pub bound-accepted : (bound : ℕ) → Power 32 bound → bound_refusal bound ≡ none
+bound-accepted bound p = rw (power-test 32 bound p)
 
 -- the bounds of the requirements, computed: 1 and 2 ^ 31 pass; 0, 3 and 2 ^ 31 + 1 are refused 3
-pub worked-bounds : (bound_refusal 1 ≡ 0) × (bound_refusal (2 ^ 31) ≡ 0) × (bound_refusal 0 ≡ 3) × (bound_refusal 3 ≡ 3) × (bound_refusal (2 ^ 31 + 1) ≡ 3)
+pub worked-bounds : (bound_refusal 1 ≡ none) × (bound_refusal (2 ^ 31) ≡ none) × (bound_refusal 0 ≡ Err BadBound) × (bound_refusal 3 ≡ Err BadBound) × (bound_refusal (2 ^ 31 + 1) ≡ Err BadBound)
 unfolding power_below
 worked-bounds = (refl, refl, refl, refl, refl)
+
+-- One bit
+
+ones-none : ones 0 ≡ 0
+unfolding ones
+ones-none = refl
+
+ones-high : (k r : ℕ) → r < 2 ^ k → ones (1 * 2 ^ k + r) ≡ 1 + ones r
+unfolding ones
+ones-high k r h = ones_cat k 1 r h
+
+power-one : (k : ℕ) → ones (2 ^ k) ≡ 1
+unfolding ones
+power-one k =
+    let e : 2 ^ k ≡ 1 * 2 ^ k + 0 = omega arith in
+    ap ones e ∙ ones-high k 0 (pow_pos k)
+
+-- the highest bit that there is room for is the one, or it is a lower one
+one-power : (n bound : ℕ) → bound < 2 ^ n → ones bound ≡ 1 → Power n bound
+one-power zero bound h e =
+    let small : bound ≡ 0 = omega arith in
+    absurd (omega (arith, ones-none, ap ones small))
+one-power (suc n) bound h e = go (dec_lt bound (2 ^ n)) (one-power n bound)
+  where
+    go : Dec (bound < 2 ^ n) → (bound < 2 ^ n → ones bound ≡ 1 → Power n bound) → Power (suc n) bound
+    go (yes low) further = power-further (further low e)
+    go (no high) further =
+        let r = bound - 2 ^ n in
+        let split : bound ≡ 1 * 2 ^ n + r = omega arith in
+        let bits : ones bound ≡ 1 + ones r = ap ones split ∙ ones-high n r (omega arith) in
+        let rest : ones r ≡ 0 = omega arith in
+        record { k = n; below = omega arith; same = omega (arith, zero_from_ones r rest) }
+
+one-test : (bound : ℕ) → bound < 2 ^ 32 → ones bound ≡ 1 → power_below 32 bound ≡ true
+one-test bound h e = power-test 32 bound (one-power 32 bound h e)
+
+test-one : (bound : ℕ) → power_below 32 bound ≡ true → ones bound ≡ 1
+test-one bound t = let p = test-power 32 bound t in ap ones p.same ∙ power-one p.k
+
+-- what code answers that counted the bits
+
+pub power_accepted : (bound : ℕ) → bound < 2 ^ 32 → ones bound ≡ 1 → none ≡ bound_refusal bound
+power_accepted bound h e = sym (rw (one-test bound h e))
+
+pub other_refused : (bound : ℕ) → (ones bound ≡ 1 → ⊥) → Err BadBound ≡ bound_refusal bound
+other_refused bound h = sym (refused (power_below 32 bound) BadBound (λ t. h (test-one bound t)))
+
+pub power_positive : (bound : ℕ) → bound < 2 ^ 32 → ones bound ≡ 1 → 0 < bound
+power_positive bound h e = power-positive (one-power 32 bound h e)
+
+-- a bound that is granted was not refused, and is the number that was judged
+
+abbrev number_in : Result ℕ Refusal → ℕ → ℕ
+number_in (Ok n) room = n
+number_in (Err refusal) room = room
+
+pub granted_bound : (j : Judgement) {b n : ℕ} → Ok b ≡ granted j n → (none ≡ j) × (b ≡ n)
+granted_bound (Ok done) {b} {n} e = (refl, ap (λ (r : Result ℕ Refusal). number_in r b) e)
+granted_bound (Err refusal) e = absurd (refused-not-none (sym (ap judged e)))
+  where
+    judged : Result ℕ Refusal → Judgement
+    judged (Ok n) = none
+    judged (Err refusal) = Err refusal

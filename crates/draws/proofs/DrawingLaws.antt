@@ -1,103 +1,133 @@
--- A draw in progress, as a loop makes it: what is found stands in front of the slice, and the rest of the draw goes on from here.
+-- A draw in progress, as a loop makes it: what is found is the draw with the squeezes so far for its allowance.
 -- Assumes nothing.
 use mathlib.Core.List.{List, [], ◌∷◌, ◌++◌}
-use mathlib.Core.Path.{◌≡◌, refl, ap, ap₂, subst, subst⁻¹, sym, ◌∙◌}
-use Prim.Native.Nat.{ℕ, suc, ◌+◌, ◌-◌, ◌≤◌, ◌<◌}
-use native.Mathlib.Nat.{sub-zero}
+use mathlib.Core.Path.{◌≡◌, ap, ap₂, subst⁻¹, sym, ◌∙◌}
+use Prim.Native.Nat.{ℕ, ◌+◌, ◌-◌, ◌≤◌, ◌<◌}
 use native.Mathlib.Omega.{arith}
-use lib.ListN.{drop, length, replicate, take, length-append, take-append-drop}
-use lib.Seq.{length-take-le}
-use Rattle.refusals.specs.Judge.{first}
-use Rattle.refusals.proofs.RefusalLaws.{first-one}
+use borrow.Author.Tests.{le-ltb, lt-ltb}
+use borrow.Rule.Slice.PartMut.{mid_of, put_mid}
+use lib.ListN.{drop, length, take, length-append, length-drop}
+use Rattle.std.specs.Prelude.{Result, Ok, Err}
+use Rattle.rounds.specs.Field.{Below}
+use Rattle.refusals.specs.declared.refusal.Refusal.{Refusal}
+use Rattle.refusals.specs.Judge.{Judgement, none, unless}
+use Rattle.refusals.proofs.RefusalLaws.{first-one, first-past}
 use Rattle.sponge.specs.declared.Tip5.{Tip5}
-use Rattle.sponge.specs.Answers.{squeeze_refusal}
-use Rattle.sponge.specs.History.{after}
-use Rattle.sponge.specs.History.Step.{squeeze}
+use Rattle.sponge.specs.Answers.{squeeze, squeeze_refusal}
+use Rattle.sponge.specs.InPlace.{leaving_ten}
 use Rattle.sponge.specs.Sponge.{rate, squeezed}
-use Rattle.sponge.specs.WalkBack.{Accepted}
-use Rattle.draws.specs.declared.DrawAnswer.{DrawAnswer}
-use Rattle.draws.specs.Answers.{draw_answer, found_refusal, in_front}
+use Rattle.sponge.proofs.SpongeLaws.{squeezed-below}
+use Rattle.draws.specs.declared.error.DrawError.{DrawError}
+use Rattle.draws.specs.declared.error.DrawError.TheVariants.{AllowanceSpent}
+use Rattle.draws.specs.Answers.{draw_answer, draw_refusal, in_front, sample_indices, sampled_slice}
+use Rattle.draws.specs.Bound.{bound_refusal}
 use Rattle.draws.specs.Draw.{Draw, draw, from_ten, from_words, joined, nothing}
-use Rattle.draws.specs.Extended.{Extended}
-use Rattle.draws.proofs.DrawLaws.{draw-turn, joined-assoc, joined-nothing, nothing-joined}
-use Rattle.draws.proofs.ExtendedLaws.{drop-further, extended-found}
+use Rattle.draws.specs.Filled.{filled}
+use Rattle.draws.proofs.AllowanceLaws.{draw-enough}
+use Rattle.draws.proofs.DrawLaws.{draw-add, draw-found, draw-spent, draw-turn, joined-nothing}
+use Rattle.draws.proofs.FilledLaws.{front-more, lent-rest, put-rest}
+use Rattle.draws.proofs.SqueezeLaws.{squeeze-made}
 
--- what is found so far
-abbrev pub so_far : (now : List ℕ) (found squeezes : ℕ) → Tip5 → Draw
-so_far now found squeezes s = record { indices = take found now; squeezes = squeezes; sponge = s }
-
--- a draw in progress: the slice is as long as it was, and past what is found as it was; the squeezes that are still allowed are
--- accepted; and the whole draw is what is found so far and the draw that goes on from here
+-- the draw was not refused, its sponge can be squeezed, and the counts, the sponge and the slice are those of the draw with the
+-- squeezes so far for its allowance
 pub record Drawing (bound allowance : ℕ) (start : Tip5) (before now : List ℕ) (found squeezes : ℕ) (sponge : Tip5) : Type 0 where
-  pub long : length now ≡ length before
-  pub within : found ≤ length before
-  pub spent : squeezes ≤ allowance
-  pub rest : drop found now ≡ drop found before
-  pub accepted : Accepted (replicate (allowance - squeezes) squeeze) sponge
-  pub whole : draw bound allowance (length before) start ≡ joined (so_far now found squeezes sponge) (draw bound (allowance - squeezes) (length before - found) sponge)
+  pub accepted : draw_refusal start bound ≡ none
+  pub below : Below sponge.state
+  pub allowed : squeezes ≤ allowance
+  pub counted : found ≡ length (draw bound squeezes (length before) start).indices
+  pub made : squeezes ≡ (draw bound squeezes (length before) start).squeezes
+  pub moved : sponge ≡ (draw bound squeezes (length before) start).sponge
+  pub stored : now ≡ in_front (draw bound squeezes (length before) start).indices before
 
 -- before the first squeeze
-pub drawing-starts : (bound allowance : ℕ) (s : Tip5) (before : List ℕ) → Accepted (replicate allowance squeeze) s → Drawing bound allowance s before before 0 0 s
-drawing-starts bound allowance s before h =
+pub drawing_starts : (bound allowance : ℕ) (s : Tip5) (before : List ℕ) → none ≡ squeeze_refusal s → none ≡ bound_refusal bound → Below s.state → Drawing bound allowance s before before 0 0 s
+drawing_starts bound allowance s before words bounds h =
+    let none = sym (draw-spent bound (length before) s) in
     record {
-      long = refl;
-      within = omega arith;
-      spent = omega arith;
-      rest = refl;
-      accepted = subst⁻¹ (λ (n : ℕ). Accepted (replicate n squeeze) s) (sub-zero allowance) h;
-      whole = sym (nothing-joined s (draw bound (allowance - 0) (length before - 0) s) ∙ ap₂ (λ (a n : ℕ). draw bound a n s) (sub-zero allowance) (sub-zero (length before)));
+      accepted = first-past (bound_refusal bound ∷ []) (sym words) ∙ first-one (bound_refusal bound) ∙ sym bounds;
+      below = h;
+      allowed = omega arith;
+      counted = ap (λ (d : Draw). length d.indices) none;
+      made = ap (λ (d : Draw). d.squeezes) none;
+      moved = ap (λ (d : Draw). d.sponge) none;
+      stored = ap (λ (d : Draw). in_front d.indices before) none;
     }
 
--- Another squeeze
-
--- the next of n squeezes that are accepted, and those after it
-pub next-accepted : {n m : ℕ} (s : Tip5) → n ≡ suc m → Accepted (replicate n squeeze) s → (squeeze_refusal s ≡ 0) × Accepted (replicate m squeeze) (squeezed s)
-unfolding after
-next-accepted s e h = subst (λ (k : ℕ). Accepted (replicate k squeeze) s) e h
-
 module _ {bound allowance : ℕ} {start : Tip5} {before now : List ℕ} {found squeezes : ℕ} {sponge : Tip5} where
-  -- it is not refused
-  pub drawing-squeezes : Drawing bound allowance start before now found squeezes sponge → squeezes < allowance → squeeze_refusal sponge ≡ 0
-  drawing-squeezes d h =
-      let more : allowance - squeezes ≡ suc (allowance - (squeezes + 1)) = omega arith in
-      (next-accepted sponge more d.accepted).0
+  drawing-long : Drawing bound allowance start before now found squeezes sponge → length now ≡ length before
+  drawing-long d =
+      let so_far = (draw bound squeezes (length before) start).indices in
+      omega (arith, ap length d.stored, length-append so_far (drop (length so_far) before), length-drop (length so_far) before, draw-found bound squeezes (length before) start)
 
-  -- after it, with its words put into the slice
-  pub drawing-turn : {after : List ℕ} {r : ℕ} → Drawing bound allowance start before now found squeezes sponge → squeezes < allowance → found < length before
-      → Extended now found (from_words bound (rate sponge)) r after → Drawing bound allowance start before after r (squeezes + 1) (squeezed sponge)
+  pub drawing_room : Drawing bound allowance start before now found squeezes sponge → found ≤ length now
+  drawing_room d = omega (arith, d.counted, drawing-long d, draw-found bound squeezes (length before) start)
+
+  -- after another squeeze, with its words put at the front of the rest of the slice
+  pub drawing_turn : {r : Result (List ℕ) Refusal} {ten put : List ℕ} {n : ℕ} {next : Tip5} → Drawing bound allowance start before now found squeezes sponge
+      → found < length now → squeezes < allowance
+      → (r, next) ≡ leaving_ten (squeeze sponge) sponge → r ≡ Ok ten
+      → (n, put) ≡ filled (from_words bound ten) (mid_of found (length now - found) now)
+      → Drawing bound allowance start before (put_mid found (length now - found) now put) (found + n) (squeezes + 1) next
   unfolding from_ten
-  drawing-turn {after} {r} d spent missing e =
-      let more : allowance - squeezes ≡ suc (allowance - (squeezes + 1)) = omega arith in
-      let n = length before - found in
-      let ten = from_ten bound n sponge in
-      let front : take r after ≡ take found now ++ ten.indices =
-      extended-found (from_words bound (rate sponge)) e (omega (arith, d.long)) ∙ ap (λ (l : ℕ). take found now ++ take (l - found) (from_words bound (rate sponge))) d.long in
-      let count : r ≡ found + length ten.indices =
-      sym (length-take-le r after (omega (arith, e.long))) ∙ ap length front ∙ length-append (take found now) ten.indices ∙ ap (λ (k : ℕ). k + length ten.indices) (length-take-le found now (omega (arith, d.long))) in
-      let fewer : n - length ten.indices ≡ length before - r = omega arith in
+  drawing_turn {r} {ten = words} {put} {n} {next} d missing unspent one made e =
+      let both = squeeze-made sponge d.below one in
+      let squeezes-it : next ≡ squeezed sponge = both.1 in
+      let words-are : words ≡ rate sponge = cc in
+      let so_far = draw bound squeezes (length before) start in
+      let ten = from_ten bound (length before - found) sponge in
+      let long = drawing-long d in
+      let turn : draw bound 1 (length before - length so_far.indices) so_far.sponge ≡ ten =
+      ap₂ (λ (k : ℕ) (s : Tip5). draw bound 1 (length before - k) s) (sym d.counted) (sym d.moved)
+      ∙ draw-turn bound 0 (length before - found) sponge (omega arith)
+      ∙ ap (joined ten) (draw-spent bound (length before - found - length ten.indices) ten.sponge)
+      ∙ joined-nothing ten in
+      let whole : joined so_far ten ≡ draw bound (squeezes + 1) (length before) start = sym (draw-add bound squeezes 1 (length before) start ∙ ap (joined so_far) turn) in
+      let free : ◌≡◌ {A = ℕ × List ℕ} (n, put) (length ten.indices, in_front ten.indices (drop found now)) =
+      e ∙ ap₂ (λ (ws l : List ℕ). filled (from_words bound ws) l) words-are (lent-rest found now)
+      ∙ ap (λ (k : ℕ). (let l = take k (from_words bound (rate sponge)) in (length l, in_front l (drop found now)))) (length-drop found now ∙ ap (λ (k : ℕ). k - found) long) in
       record {
-        long = e.long ∙ d.long;
-        within = omega (arith, d.long);
-        spent = omega arith;
-        rest = e.rest ∙ drop-further now before e.grown d.rest;
-        accepted = (next-accepted sponge more d.accepted).1;
-        whole =
-            d.whole
-            ∙ ap (joined (so_far now found squeezes sponge)) (ap (λ (a : ℕ). draw bound a n sponge) more ∙ draw-turn bound (allowance - (squeezes + 1)) n sponge (omega arith))
-            ∙ sym (joined-assoc (so_far now found squeezes sponge) ten (draw bound (allowance - (squeezes + 1)) (n - length ten.indices) (squeezed sponge)))
-            ∙ ap₂ (λ (l : List ℕ) (m : ℕ). joined (record { indices = l; squeezes = squeezes + 1; sponge = squeezed sponge }) (draw bound (allowance - (squeezes + 1)) m (squeezed sponge))) (sym front) fewer;
+        accepted = d.accepted;
+        below = subst⁻¹ (λ (s : Tip5). Below s.state) squeezes-it (squeezed-below sponge);
+        allowed = omega arith;
+        counted = ap₂ (λ (k m : ℕ). k + m) d.counted (ap (λ (p : ℕ × List ℕ). p.0) free) ∙ sym (length-append so_far.indices ten.indices) ∙ ap (λ (w : Draw). length w.indices) whole;
+        made = ap (λ (k : ℕ). k + 1) d.made ∙ ap (λ (w : Draw). w.squeezes) whole;
+        moved = squeezes-it ∙ ap (λ (w : Draw). w.sponge) whole;
+        stored =
+            put-rest found now put
+            ∙ ap (λ (l : List ℕ). take found now ++ l) (ap (λ (p : ℕ × List ℕ). p.1) free)
+            ∙ ap₂ (λ (k : ℕ) (l : List ℕ). take k l ++ in_front ten.indices (drop k l)) d.counted d.stored
+            ∙ sym (front-more so_far.indices ten.indices before)
+            ∙ ap (λ (w : Draw). in_front w.indices before) whole;
       }
 
-  -- no squeeze more: the answer, and the slice
-  pub drawing-ends : {refusal : ℕ} → Drawing bound allowance start before now found squeezes sponge → draw bound (allowance - squeezes) (length before - found) sponge ≡ nothing sponge
-      → refusal ≡ found_refusal (length before) found
-      → (◌≡◌ {A = DrawAnswer} (record { refusal = refusal; found = found; squeezes = squeezes; sponge = sponge }) (draw_answer 0 (length before) (draw bound allowance (length before) start)))
-      × (now ≡ in_front (draw bound allowance (length before) start).indices before)
-  drawing-ends {refusal} d last e =
-      let whole : draw bound allowance (length before) start ≡ so_far now found squeezes sponge = d.whole ∙ ap (joined (so_far now found squeezes sponge)) last ∙ joined-nothing (so_far now found squeezes sponge) in
-      let long : length (take found now) ≡ found = length-take-le found now (omega (arith, d.long)) in (
-        (λ i. record { refusal = (e ∙ sym (first-one (found_refusal (length before) found))) i; found = found; squeezes = squeezes; sponge = sponge })
-            ∙ sym (ap (λ (n : ℕ). record { refusal = first (0 ∷ found_refusal (length before) n ∷ []); found = n; squeezes = squeezes; sponge = sponge }) long)
-            ∙ sym (ap (draw_answer 0 (length before)) whole),
-        sym (ap (λ (l : Draw). in_front l.indices before) whole ∙ ap (λ (n : ℕ). take found now ++ drop n before) long ∙ ap (λ (l : List ℕ). take found now ++ l) (sym d.rest) ∙ take-append-drop found now),
+  -- what a call answers and leaves that made all its squeezes
+  ended : Drawing bound allowance start before now found squeezes sponge → (let so_far = draw bound squeezes (length before) start in
+      draw bound allowance (length before) start ≡ so_far
+      → ((draw_answer none (length before) so_far, sponge) ≡ sample_indices start bound allowance (length before)) × (now ≡ sampled_slice start bound allowance before))
+  ended d all =
+      let so_far = draw bound squeezes (length before) start in (
+        ap (λ (s : Tip5). (draw_answer none (length before) so_far, s)) d.moved
+            ∙ sym (ap₂ (λ (j : Judgement) (w : Draw). (draw_answer j (length before) (unless j w (nothing start)), (unless j w (nothing start)).sponge)) d.accepted all),
+        d.stored ∙ sym (ap₂ (λ (j : Judgement) (w : Draw). in_front (unless j w (nothing start)).indices before) d.accepted all),
       )
+
+  -- all are found
+  pub drawing_full : Drawing bound allowance start before now found squeezes sponge → length now ≤ found
+      → ((Ok squeezes, sponge) ≡ sample_indices start bound allowance (length before)) × (now ≡ sampled_slice start bound allowance before)
+  drawing_full d all =
+      let so_far = draw bound squeezes (length before) start in
+      let enough : length before ≤ length so_far.indices = omega (arith, d.counted, drawing-long d) in
+      let answer : Ok squeezes ≡ draw_answer none (length before) so_far = ap Ok d.made ∙ sym (rw (le-ltb (length so_far.indices) (length before) enough)) in
+      let end = ended d (draw-enough bound (length before) start d.allowed enough) in
+      (ap (λ (r : Result ℕ DrawError). (r, sponge)) answer ∙ end.0, end.1)
+
+  -- some are missing, and the allowance is spent
+  pub drawing_short : Drawing bound allowance start before now found squeezes sponge → found < length now → squeezes ≡ allowance
+      → ((Err (AllowanceSpent found squeezes), sponge) ≡ sample_indices start bound allowance (length before)) × (now ≡ sampled_slice start bound allowance before)
+  drawing_short d missing spent =
+      let so_far = draw bound squeezes (length before) start in
+      let short : length so_far.indices < length before = omega (arith, d.counted, drawing-long d) in
+      let answer : Err (AllowanceSpent found squeezes) ≡ draw_answer none (length before) so_far =
+      ap₂ (λ (k m : ℕ). Err (AllowanceSpent k m)) d.counted d.made ∙ sym (rw (lt-ltb (length so_far.indices) (length before) short)) in
+      let end = ended d (ap (λ (a : ℕ). draw bound a (length before) start) (sym spent)) in
+      (ap (λ (r : Result ℕ DrawError). (r, sponge)) answer ∙ end.0, end.1)

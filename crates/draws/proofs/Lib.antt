@@ -5,7 +5,7 @@ pub mod BelowBound
 pub mod BoundLaws
 pub mod DrawLaws
 pub mod DrawingLaws
-pub mod ExtendedLaws
+pub mod FilledLaws
 pub mod IndexLaws
 pub mod SourceLaws
 pub mod SqueezeLaws

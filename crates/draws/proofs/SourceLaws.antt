@@ -11,7 +11,9 @@ use native.Mathlib.Omega.{arith}
 use lib.ListN.{length, take, length-append}
 use lib.Seq.{take-nil}
 use Rattle.rounds.specs.Field.{value_of}
-use Rattle.refusals.specs.Judge.{unless}
+use Rattle.std.specs.Prelude.{Ok, Err}
+use Rattle.refusals.specs.Judge.{Judgement, none, unless}
+use Rattle.refusals.proofs.JudgeLaws.{refused-not-none}
 use Rattle.sponge.specs.declared.Tip5.{Tip5}
 use Rattle.sponge.specs.Sponge.{rate, squeezed}
 use Rattle.draws.specs.Answers.{draw_refusal, drawn, sample_indices}
@@ -109,18 +111,19 @@ draw-source bound (suc a) (suc n) s h =
 -- Calls
 
 -- the source's loop ends: with its squeezes or more allowed the call draws the same
-pub source-drawn : (s : Tip5) (bound allowance wanted : ℕ) {d : Draw} → draw_refusal s bound ≡ 0 → SourceDraw bound wanted s d → d.squeezes ≤ allowance
+pub source-drawn : (s : Tip5) (bound allowance wanted : ℕ) {d : Draw} → draw_refusal s bound ≡ none → SourceDraw bound wanted s d → d.squeezes ≤ allowance
     → drawn s bound allowance wanted ≡ d
-source-drawn s bound allowance wanted none l h =
-    ap (λ (n : ℕ). unless n (draw bound allowance wanted s) (nothing s)) none ∙ source-draw l allowance h
+source-drawn s bound allowance wanted accepted l h =
+    ap (λ (j : Judgement). unless j (draw bound allowance wanted s) (nothing s)) accepted ∙ source-draw l allowance h
 
 -- the call is not refused: the source's loop ends, and draws the same
-pub drawn-source : (s : Tip5) (bound allowance wanted : ℕ) → (sample_indices s bound allowance wanted).refusal ≡ 0 → SourceDraw bound wanted s (drawn s bound allowance wanted)
+pub drawn-source : (s : Tip5) (bound allowance wanted : ℕ) {squeezes : ℕ} → (sample_indices s bound allowance wanted).0 ≡ Ok squeezes
+    → SourceDraw bound wanted s (drawn s bound allowance wanted)
 drawn-source s bound allowance wanted e =
-    let both = accepted-all s bound allowance wanted e in
-    go (draw_refusal s bound) both.0 both.1
+    let all = accepted-all s bound allowance wanted e in
+    go (draw_refusal s bound) all.0 all.1
   where
-    go : (n : ℕ) → n ≡ 0 → wanted ≤ length (unless n (draw bound allowance wanted s) (nothing s)).indices
-        → SourceDraw bound wanted s (unless n (draw bound allowance wanted s) (nothing s))
-    go zero none all = draw-source bound allowance wanted s all
-    go (suc n) none all = absurd (omega arith)
+    go : (j : Judgement) → j ≡ none → wanted ≤ length (unless j (draw bound allowance wanted s) (nothing s)).indices
+        → SourceDraw bound wanted s (unless j (draw bound allowance wanted s) (nothing s))
+    go (Ok done) accepted all = draw-source bound allowance wanted s all
+    go (Err refusal) accepted all = absurd (refused-not-none accepted)

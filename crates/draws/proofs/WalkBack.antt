@@ -6,15 +6,15 @@ use mathlib.Core.Path.{◌≡◌, refl, ap, sym, ◌∙◌}
 use Prim.Native.Nat.{ℕ, zero, suc, ◌+◌, ◌≤◌}
 use native.Mathlib.Nat.{add-suc, add-zero, le_of_suc-le-suc, not-suc-le-zero, suc-add, zero-add}
 use lib.ListN.{drop, length, replicate, take}
-use Rattle.refusals.specs.Judge.{unless}
+use Rattle.std.specs.Prelude.{Ok, Err}
+use Rattle.refusals.specs.Judge.{Judgement, unless}
 use Rattle.sponge.specs.declared.step_back.StepKind.TheVariants.{Squeeze}
 use Rattle.sponge.specs.declared.Tip5.{Tip5}
-use Rattle.sponge.specs.Answers.{granted}
 use Rattle.sponge.specs.History.{after, run}
 use Rattle.sponge.specs.History.Step.{squeeze}
 use Rattle.sponge.specs.WalkBack.{Accepted, AllKept, Kept, walk}
 use Rattle.sponge.proofs.WalkBack.{walk-back, walk-back-to}
-use Rattle.draws.specs.Answers.{draw_refusal, draw_steps, sample_indices}
+use Rattle.draws.specs.Answers.{draw_refusal, draw_steps, drawn, sample_indices}
 use Rattle.draws.specs.Draw.{draw, nothing}
 use Rattle.draws.proofs.AnswerLaws.{accepted-draw}
 use Rattle.draws.proofs.DrawLaws.{draw-sponge, draw-squeezes}
@@ -22,13 +22,13 @@ use Rattle.draws.proofs.DrawLaws.{draw-sponge, draw-squeezes}
 -- The steps
 
 -- the next sponge is the start after them
-pub drawn-sponge : (s : Tip5) (bound allowance wanted : ℕ) → (sample_indices s bound allowance wanted).sponge ≡ run (draw_steps s bound allowance wanted) s
+pub drawn-sponge : (s : Tip5) (bound allowance wanted : ℕ) → (sample_indices s bound allowance wanted).1 ≡ run (draw_steps s bound allowance wanted) s
 unfolding run
 drawn-sponge s bound allowance wanted = go (draw_refusal s bound)
   where
-    go : (n : ℕ) → (let d = unless n (draw bound allowance wanted s) (nothing s) in d.sponge ≡ run (replicate d.squeezes squeeze) s)
-    go zero = draw-sponge bound allowance wanted s
-    go (suc n) = refl
+    go : (j : Judgement) → (let d = unless j (draw bound allowance wanted s) (nothing s) in d.sponge ≡ run (replicate d.squeezes squeeze) s)
+    go (Ok done) = draw-sponge bound allowance wanted s
+    go (Err refusal) = refl
 
 -- fewer squeezes are accepted too
 fewer-accepted : {m : ℕ} (n : ℕ) (s : Tip5) → m ≤ n → Accepted (replicate n squeeze) s → Accepted (replicate m squeeze) s
@@ -40,21 +40,21 @@ fewer-accepted {m = suc m} (suc n) s h accepted = (accepted.0, fewer-accepted {m
 pub drawn-accepted : (s : Tip5) (bound allowance wanted : ℕ) → Accepted (draw_steps s bound allowance wanted) s
 drawn-accepted s bound allowance wanted = go (draw_refusal s bound) refl
   where
-    go : (n : ℕ) → draw_refusal s bound ≡ n → Accepted (replicate (unless n (draw bound allowance wanted s) (nothing s)).squeezes squeeze) s
-    go zero e = fewer-accepted allowance s (draw-squeezes bound allowance wanted s) (accepted-draw s bound allowance e).1
-    go (suc n) e = tt
+    go : (j : Judgement) → draw_refusal s bound ≡ j → Accepted (replicate (unless j (draw bound allowance wanted s) (nothing s)).squeezes squeeze) s
+    go (Ok done) e = fewer-accepted allowance s (draw-squeezes bound allowance wanted s) (accepted-draw s bound allowance e).1
+    go (Err refusal) e = tt
 
 -- The walk back
 
 -- the sponge that the draw began with
 pub drawn-walk-back : (s : Tip5) (bound allowance wanted : ℕ) (ks : List Kept) → length s.state ≡ 16 → AllKept (draw_steps s bound allowance wanted) s ks
-    → walk (reverse ks) (sample_indices s bound allowance wanted).sponge ≡ granted s
+    → walk (reverse ks) (sample_indices s bound allowance wanted).1 ≡ Ok s
 drawn-walk-back s bound allowance wanted ks e kept =
     ap (walk (reverse ks)) (drawn-sponge s bound allowance wanted) ∙ walk-back (draw_steps s bound allowance wanted) s ks e (drawn-accepted s bound allowance wanted) kept
 
 -- the sponge before its squeeze k, for every k
 pub drawn-walk-back-to : (k : ℕ) (s : Tip5) (bound allowance wanted : ℕ) (ks : List Kept) → length s.state ≡ 16 → AllKept (draw_steps s bound allowance wanted) s ks
-    → walk (reverse (drop k ks)) (sample_indices s bound allowance wanted).sponge ≡ granted (run (take k (draw_steps s bound allowance wanted)) s)
+    → walk (reverse (drop k ks)) (sample_indices s bound allowance wanted).1 ≡ Ok (run (take k (draw_steps s bound allowance wanted)) s)
 drawn-walk-back-to k s bound allowance wanted ks e kept =
     ap (walk (reverse (drop k ks))) (drawn-sponge s bound allowance wanted) ∙ walk-back-to k (draw_steps s bound allowance wanted) s ks e (drawn-accepted s bound allowance wanted) kept
 
@@ -76,10 +76,10 @@ reverse_aux-replicate (suc n) m k = reverse_aux-replicate n (suc m) k ∙ ap (λ
 reverse-replicate : (n : ℕ) (k : Kept) → reverse (replicate n k) ≡ replicate n k
 reverse-replicate n k = reverse_aux-replicate n 0 k ∙ ap (λ (n : ℕ). replicate n k) (add-zero n)
 
--- as many squeezes walked back as the draw reports
+-- as many squeezes walked back as the draw made, which are those that the call reports
 pub drawn-undone : (s : Tip5) (bound allowance wanted : ℕ) (places : List ℕ) → length s.state ≡ 16 → length places ≡ 10
-    → (let answer = sample_indices s bound allowance wanted in walk (replicate answer.squeezes (record { kind = Squeeze; ten = places })) answer.sponge ≡ granted s)
+    → walk (replicate (drawn s bound allowance wanted).squeezes (record { kind = Squeeze; ten = places })) (sample_indices s bound allowance wanted).1 ≡ Ok s
 drawn-undone s bound allowance wanted places e ten =
-    let answer = sample_indices s bound allowance wanted in
-    ap (λ (ks : List Kept). walk ks answer.sponge) (sym (reverse-replicate answer.squeezes (a_squeeze places)))
-    ∙ drawn-walk-back s bound allowance wanted (replicate answer.squeezes (a_squeeze places)) e (squeezes-kept answer.squeezes s places ten)
+    let n = (drawn s bound allowance wanted).squeezes in
+    ap (λ (ks : List Kept). walk ks (sample_indices s bound allowance wanted).1) (sym (reverse-replicate n (a_squeeze places)))
+    ∙ drawn-walk-back s bound allowance wanted (replicate n (a_squeeze places)) e (squeezes-kept n s places ten)

@@ -2,6 +2,6 @@
 pub mod Answers
 pub mod Bound
 pub mod Draw
-pub mod Extended
-pub mod InPlace
+pub mod Error
+pub mod Filled
 pub mod Source

@@ -1,51 +1,41 @@
-// From raw words to indices in a lent slice.
-ghost use Rattle.std.specs.Prelude.{◌≡◌, ◌≤◌, ◌<◌, length};
+// From raw words to indices at the front of a lent slice.
+ghost use Rattle.std.specs.Prelude.{◌≡◌, ◌<◌};
 ghost use Rattle.numbers.specs.Modulus.{P};
 ghost use Rattle.rounds.specs.Field.{Below, value_of};
-ghost use Rattle.draws.specs.Draw.{drawn_from, from_words, index_of};
-ghost use Rattle.draws.specs.Extended.{Extended};
+ghost use Rattle.draws.specs.Draw.{drawn_from, from_words};
+ghost use Rattle.draws.specs.Filled.{filled};
 
-use tip5::b_field_element::{BFieldElement, Value};
+use crate::bound::Bound;
+use rounds::P;
+use tip5::b_field_element::BFieldElement;
 
 // The value that draws nothing: P - 1.
-const SKIPPED: u64 = 18446744069414584320;
+const SKIPPED: u64 = P - 1;
 
-// The low 32 bits of a value, modulo the bound.
-fn index_of(value: Value, bound: u32) -> u32
-    requires { 0 < bound }
-    ensures { result ≡ index_of bound value.0 }
+// What a word draws is put at the front, if there is room: how many indices are put, none or one, as `put_indices` counts
+// them. The words of a squeezed ten are plain u64, as a squeeze answers them: a type for one below P is private to `tip5`.
+#[tactic(auto, using(crate::proofs::IndexLaws::put_nothing, crate::proofs::IndexLaws::put_no_room, crate::proofs::IndexLaws::put_one))]
+fn put_index(word: u64, bound: Bound, free: &mut [u32]) -> usize
+    requires { word < P }
+    ensures { (result, free.new) ≡ filled (drawn_from bound (value_of word)) free.old }
 {
-    let low = (value.0 % 4294967296) as u32;
-    low % bound
-}
-
-// What a word draws is put after the indices found so far, if there is room.
-fn put_index(word: u64, bound: u32, indices: &mut [u32], found: usize) -> usize
-    requires { (0 < bound) × (word < P) × (found ≤ length indices.old) }
-    ensures { Extended indices.old found (drawn_from bound (value_of word)) result indices.new }
-{
-    if found == indices.len() {
-        return found;
+    let value = BFieldElement(word).value().unwrap();
+    if value.0 == SKIPPED || free.is_empty() {
+        return 0;
     }
-    let answer = BFieldElement(word).value();
-    let value = answer.value;
-    if value.0 == SKIPPED {
-        return found;
-    }
-    indices[found] = index_of(value, bound);
-    found + 1
+    free[0] = bound.index_of(value);
+    1
 }
 
 // The same of each word, in their order.
-pub(crate) fn put_indices(words: &[u64], bound: u32, indices: &mut [u32], found: usize) -> usize
-    requires { (0 < bound) × Below words.now × (found ≤ length indices.old) }
-    ensures { Extended indices.old found (from_words bound words.now) result indices.new }
+#[tactic(auto, using(crate::proofs::IndexLaws::put_begins, crate::proofs::FilledLaws::filled_room))]
+pub(crate) fn put_indices(words: &[u64], bound: Bound, free: &mut [u32]) -> usize
+    requires { Below words.now }
+    ensures { (result, free.new) ≡ filled (from_words bound words.now) free.old }
 {
-    let mut n = found;
-    let mut i = 0;
-    while i < words.len() {
-        n = put_index(words[i], bound, indices, n);
-        i += 1;
+    let mut put = 0;
+    for &word in words {
+        put += put_index(word, bound, &mut free[put..]);
     }
-    n
+    put
 }

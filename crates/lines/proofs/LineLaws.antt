@@ -1,18 +1,20 @@
 -- The laws of decimal numbers and of the numbers of a line.
 -- Assumes nothing.
 use mathlib.Core.Path.{◌≡◌, refl, sym, ap, ◌∙◌}
-use mathlib.Core.List.{List, [], ◌∷◌, ◌++◌, append_assoc}
+use mathlib.Core.List.{List, [], ◌∷◌, ◌++◌, append_assoc, append-nil}
 use mathlib.Core.Logic.{◌⊎◌, inl, inr, ⊎_elim}
-use Prim.Native.Nat.{ℕ, zero, suc, ◌+◌, ◌*◌, ◌/◌, ◌^◌, ◌≤◌, ◌<◌, zero-le}
+use Prim.Native.Nat.{ℕ, zero, suc, ◌+◌, ◌-◌, ◌/◌, ◌^◌, ◌≤◌, ◌<◌}
 use native.Mathlib.Decide.{dec_lt}
-use native.Mathlib.Nat.{div-lt_iff_lt-mul, lt_of_lt_of_le, le_refl, not-suc-le-zero, pow-suc}
-use native.Mathlib.Numerals.{add-one}
+use native.Mathlib.Nat.{le_refl, not-suc-le-zero}
 use native.Mathlib.Omega.{arith}
-use borrow.Author.Tests.{le-leb, le-ltb, lt-leb, lt-ltb}
-use lib.Dec.{lit<, lit≤}
-use lib.ListN.{length, drop, get_or, length-append, drop_of_length-le}
-use lib.Seq.{drop-cons}
-use Rattle.lines.specs.Line.{bounded_draw_line, decimal, decimal_within, digit, draw_line, index_limit, joined, line, newline, separated, space, spaced}
+use borrow.Author.Tests.{le-leb, le-ltb, lt-ltb}
+use borrow.Rule.Slice.PartMut.{mid_of, put_mid}
+use lib.ListN.{length}
+use Rattle.std.specs.Fmt as std
+use Rattle.std.proofs.lemmas.Fmt.{decimal_by_steps}
+use Rattle.lines.specs.Line.{bounded_draw_line, decimal, decimal_within, digit, draw_line, index_limit, joined, line, newline, space, spaced}
+use Rattle.lines.specs.Put.{Front}
+use Rattle.lines.proofs.PutLaws.{front-more, front-same}
 
 -- Decimal numbers
 
@@ -55,96 +57,45 @@ decimal-large {n = suc n} h =
     within-large n (suc n) h
     ∙ ap (λ (l : List ℕ). l ++ (digit (suc n) ∷ [])) (within-enough n (suc n / 10) (suc n / 10) (omega arith) (le_refl (suc n / 10)))
 
--- one digit more
-pub large-length : {n : ℕ} → 10 ≤ n → length (decimal n) ≡ length (decimal (n / 10)) + 1
-large-length {n} h = ap length (decimal-large h) ∙ length-append (decimal (n / 10)) (digit n ∷ [])
-
--- one place alone holds no number of 10 or more
-places : (k : ℕ) {n : ℕ} → 10 ≤ n → n < 10 ^ suc k → 0 < k
-places zero s l = absurd (omega arith)
-places (suc k) s l = omega arith
-
--- a number below 10 ^ k has at most k digits
-pub decimal-length : (k : ℕ) {n : ℕ} → 0 < k → n < 10 ^ k → length (decimal n) ≤ k
-decimal-length zero h l = absurd (not-suc-le-zero h)
-decimal-length (suc k) {n} h l =
-    ⊎_elim (λ (s : n < 10). rw (decimal-small s) (omega arith))
-    (λ (s : 10 ≤ n). let tenth : n / 10 < 10 ^ k = (div-lt_iff_lt-mul (lit< tt)).1 (rw (pow-suc 10 k) at l) in
-    omega (arith, large-length s, decimal-length k {n = n / 10} (places k s l) tenth))
-    (small-or-large n)
+-- std's digits are these, for a number of 64 bits
+pub decimal-std : (n : ℕ) → n < 2 ^ 64 → decimal n ≡ std.decimal n
+decimal-std =
+    decimal_by_steps (λ (n : ℕ) (ds : List ℕ). decimal n ≡ ds)
+    (λ n h. decimal-small h ∙ ap (λ (d : ℕ). (48 + d) ∷ []) (omega arith))
+    (λ n ds h e. decimal-large h ∙ ap (λ (l : List ℕ). l ++ (digit n ∷ [])) e)
 
 -- The numbers of a line
 
--- the first number stands without a space
-pub separated-first : {i : ℕ} (n : ℕ) → i ≡ 0 → separated i n ≡ decimal n
-separated-first n e = ap (λ (i : ℕ). separated i n) e
-
--- any other after one
-pub separated-later : {i : ℕ} (n : ℕ) → (i ≡ 0 → ⊥) → separated i n ≡ space ∷ decimal n
-separated-later {i = zero} n h = absurd (h refl)
-separated-later {i = suc i} n h = refl
-
--- what is left to write of the numbers from number i on
-abbrev pub rest : (i : ℕ) (ns : List ℕ) → List ℕ
-rest zero ns = joined ns
-rest (suc i) ns = spaced (drop (suc i) ns)
-
--- number i, and what is left then
-pub rest-next : (i : ℕ) (ns : List ℕ) → i < length ns → rest i ns ≡ separated i (get_or ns i 0) ++ rest (i + 1) ns
-unfolding joined spaced
-rest-next zero [] h = absurd (not-suc-le-zero h)
-rest-next zero (n ∷ ns) h = refl
-rest-next (suc i) ns h = rw (drop-cons ns (suc i) 0 h, add-one (suc i))
-
--- the same of the lengths
-pub rest-length : (i : ℕ) (ns : List ℕ) → i < length ns → length (rest i ns) ≡ length (separated i (get_or ns i 0)) + length (rest (i + 1) ns)
-rest-length i ns h = ap length (rest-next i ns h) ∙ length-append (separated i (get_or ns i 0)) (rest (i + 1) ns)
-
--- nothing is left at the end
-pub rest-none : (i : ℕ) (ns : List ℕ) → length ns ≤ i → rest i ns ≡ []
-unfolding joined spaced
-rest-none zero [] h = refl
-rest-none zero (n ∷ ns) h = absurd (not-suc-le-zero h)
-rest-none (suc i) ns h = ap spaced (drop_of_length-le ns h)
-
--- a line is as long as its parts
-pub line-length : (head ns : List ℕ) → length (line head ns) ≡ length head + length (joined ns) + 1
-unfolding line
-line-length head ns =
-    length-append (head ++ joined ns) (newline ∷ []) ∙ ap (λ (n : ℕ). n + 1) (length-append head (joined ns))
-
--- numbers below 10 ^ k take at most k + 1 bytes each
-pub spaced-length : (k : ℕ) (ns : List ℕ) → 0 < k → ((i : ℕ) → get_or ns i 0 < 10 ^ k) → length (spaced ns) ≤ (k + 1) * length ns
+-- one number more
+pub spaced-more : (ns : List ℕ) (n : ℕ) → spaced (ns ++ n ∷ []) ≡ spaced ns ++ space ∷ decimal n
 unfolding spaced
-spaced-length k [] h l = zero-le
-spaced-length k (n ∷ ns) h l =
-    rw (length-append (decimal n) (spaced ns)) (omega (arith, decimal-length k h (l 0), spaced-length k ns h (λ i. l (suc i))))
+spaced-more [] n = ap (λ (l : List ℕ). space ∷ l) (append-nil (decimal n))
+spaced-more (x ∷ xs) n =
+    ap (λ (l : List ℕ). space ∷ decimal x ++ l) (spaced-more xs n) ∙ sym (append_assoc (space ∷ decimal x) (spaced xs) (space ∷ decimal n))
 
--- spaced numbers, in two parts
-spaced-append : (xs ys : List ℕ) → spaced (xs ++ ys) ≡ spaced xs ++ spaced ys
-unfolding spaced
-spaced-append [] ys = refl
-spaced-append (x ∷ xs) ys =
-    ap (λ (l : List ℕ). space ∷ decimal x ++ l) (spaced-append xs ys) ∙ sym (append_assoc (space ∷ decimal x) (spaced xs) (spaced ys))
+-- a head that ends in a space, and numbers
+pub line-spaced : (head ns : List ℕ) → 0 < length ns → line (head ++ space ∷ []) ns ≡ (head ++ spaced ns) ++ newline ∷ []
+unfolding line joined spaced
+line-spaced head [] h = absurd (not-suc-le-zero h)
+line-spaced head (n ∷ ns) h = ap (λ (l : List ℕ). l ++ newline ∷ []) (append_assoc head (space ∷ []) (joined (n ∷ ns)))
 
--- without a space before the first, there is a byte less
-joined-spaced : (ns : List ℕ) → length (joined ns) ≤ length (spaced ns)
-unfolding joined spaced
-joined-spaced [] = zero-le
-joined-spaced (n ∷ ns) = omega arith
+-- A line that is being written: its head and the numbers that are passed stand in front
 
--- words have at most 20 digits and indices at most 10
-pub joined-length : (words indices : List ℕ)
-    → ((i : ℕ) → get_or words i 0 < 2 ^ 64) → ((i : ℕ) → get_or indices i 0 < 2 ^ 32)
-    → length (joined (words ++ indices)) ≤ 21 * length words + 11 * length indices
-joined-length words indices hw hi =
-    omega (
-      arith,
-      joined-spaced (words ++ indices),
-      ap length (spaced-append words indices) ∙ length-append (spaced words) (spaced indices),
-      spaced-length 20 words (lit< tt) (λ i. lt_of_lt_of_le (hw i) (lit≤ tt)),
-      spaced-length 10 indices (lit< tt) (λ i. lt_of_lt_of_le (hi i) (lit≤ tt)),
-    )
+-- one number more
+pub front-number : {k l m : List ℕ} {at count : ℕ} (n : ℕ) (head ns : List ℕ) {x : ℕ} → x < 2 ^ 64 → length l ≡ n
+    → Front k (head ++ spaced ns) l at → Front (mid_of at (n - at) l) (space ∷ std.decimal x) m count
+    → Front k (head ++ spaced (ns ++ x ∷ [])) (put_mid at (n - at) l m) (at + count)
+front-number n head ns {x} small long p q =
+    front-same
+    (append_assoc head (spaced ns) (space ∷ std.decimal x)
+    ∙ ap (λ (l : List ℕ). head ++ l) (ap (λ (d : List ℕ). spaced ns ++ space ∷ d) (sym (decimal-std x small)) ∙ sym (spaced-more ns x)))
+    (front-more n long p q)
+
+-- the newline
+pub front-line : {k l m : List ℕ} {at count : ℕ} (n : ℕ) (head ns : List ℕ) → 0 < length ns → length l ≡ n
+    → Front k (head ++ spaced ns) l at → Front (mid_of at (n - at) l) (newline ∷ []) m count
+    → Front k (line (head ++ space ∷ []) ns) (put_mid at (n - at) l m) (at + count)
+front-line n head ns some long p q = front-same (sym (line-spaced head ns some)) (front-more n long p q)
 
 -- The line of a draw
 
@@ -152,8 +103,3 @@ joined-length words indices hw hi =
 pub draw-bounded : (squeezes : ℕ) (indices : List ℕ) → length indices ≤ index_limit → bounded_draw_line squeezes indices ≡ draw_line squeezes indices
 unfolding bounded_draw_line
 draw-bounded squeezes indices h = simp (le-leb _ _ h)
-
--- more of them
-pub draw-none : (squeezes : ℕ) (indices : List ℕ) → index_limit < length indices → bounded_draw_line squeezes indices ≡ []
-unfolding bounded_draw_line
-draw-none squeezes indices h = simp (lt-leb _ _ h)

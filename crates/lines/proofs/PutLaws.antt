@@ -1,41 +1,36 @@
--- Bytes that are written one after another into a line.
+-- Bytes that are written one after another from the front of a list on.
 -- Assumes nothing.
-use mathlib.Core.Path.{◌≡◌, refl, ap, subst, ◌∙◌}
-use mathlib.Core.List.{List, [], ◌∷◌, ◌++◌}
-use Prim.Native.Nat.{ℕ, suc, ◌+◌, ◌≤◌}
-use native.Mathlib.Nat.{add_assoc, add-suc, add-zero, suc-add, zero-add}
-use lib.ListN.{length, drop, set, length-append}
-use lib.Seq.{sets, sets-eq}
-use Rattle.lines.specs.Put.{Put, Front}
+use mathlib.Core.Path.{◌≡◌, sym, ap, ap₂, subst, ◌∙◌}
+use mathlib.Core.List.{List, ◌++◌, append_assoc, append-nil}
+use Prim.Native.Nat.{ℕ, ◌+◌, ◌-◌, ◌≤◌}
+use native.Mathlib.Omega.{arith}
+use borrow.Rule.Slice.PartMut.{mid_of, put_mid}
+use lib.ListN.{length, take, drop, drop_of_length-le, length-append, length-drop}
+use lib.Seq.{drop-append_seam, drop-drop, take-append_seam}
+use Rattle.std.proofs.lemmas.List.{take_all}
+use Rattle.lines.specs.Put.{Front}
 
--- a run of bytes is written in two parts
-pub sets-append : (l : List ℕ) (at : ℕ) (xs ys : List ℕ) → sets (sets l at xs) (at + length xs) ys ≡ sets l at (xs ++ ys)
-sets-append l at [] ys = ap (λ (n : ℕ). sets l n ys) (add-zero at)
-sets-append l at (x ∷ xs) ys = rw (add-suc at (length xs), ← suc-add at (length xs)) (sets-append (set l at x) (suc at) xs ys)
-
--- the same of what two calls have written
-pub put-append : {k l m : List ℕ} {at next end : ℕ} (xs ys : List ℕ)
-    → Put k at xs l next → Put l next ys m end → Put k at (xs ++ ys) m end
-put-append {k} {at = at} xs ys p q = record {
-  stored = q.stored ∙ rw (p.stored, p.place) (sets-append k at xs ys);
-  place = q.place ∙ rw (p.place, length-append xs ys) (add_assoc at (length xs) (length ys));
-}
-
--- what is still to be written after a call, as a part of what was to be written before it
-pub put-rest : {l m : List ℕ} {at next : ℕ} {xs : List ℕ} (ys : List ℕ) → Put l at xs m next → sets m next ys ≡ sets l at (xs ++ ys)
-put-rest {l} {at = at} {xs = xs} ys p = rw (p.stored, p.place) (sets-append l at xs ys)
-
--- from the beginning of a list on that is long enough: the bytes, and then what stood after them
-pub put-front : {k l : List ℕ} {end : ℕ} {xs : List ℕ} → Put k 0 xs l end → length xs ≤ length k → Front k xs l end
-put-front {k} {xs = xs} p h = record {
-  stored = p.stored ∙ sets-eq xs k 0 (rw (zero-add (length xs)) h) ∙ ap (λ (n : ℕ). xs ++ drop n k) (zero-add (length xs));
-  counted = p.place ∙ zero-add (length xs);
-}
-
--- and of bytes that are equal to them
+-- of bytes that are equal to them
 pub front-same : {before xs ys after : List ℕ} {count : ℕ} → xs ≡ ys → Front before xs after count → Front before ys after count
 front-same {before} {after = after} {count = count} e f = subst (λ (bytes : List ℕ). Front before bytes after count) e f
 
--- no byte was written
-pub front-none : (before : List ℕ) → Front before [] before 0
-front-none before = record { stored = refl; counted = refl }
+-- the bytes, and then those that a call has written at the front of what was left
+pub front-more : {k l m : List ℕ} {at count : ℕ} (n : ℕ) {xs ys : List ℕ} → length l ≡ n
+    → Front k xs l at → Front (mid_of at (n - at) l) ys m count → Front k (xs ++ ys) (put_mid at (n - at) l m) (at + count)
+front-more {k} {l} {m} {at} {count} n {xs} {ys} long p q = record {
+  stored =
+      ap₂ (λ (front back : List ℕ). front ++ (m ++ back)) front (drop_of_length-le (drop at l) room)
+      ∙ ap (λ (t : List ℕ). xs ++ t) (append-nil m ∙ q.stored ∙ ap (λ (t : List ℕ). ys ++ drop (length ys) t) (take_all (n - at) (drop at l) room ∙ left))
+      ∙ sym (append_assoc xs ys (drop (length ys) (drop (length xs) k)))
+      ∙ ap (λ (t : List ℕ). (xs ++ ys) ++ t) (drop-drop (length ys) (length xs) k ∙ ap (λ (i : ℕ). drop i k) (sym (length-append xs ys)));
+  counted = ap₂ (λ (i j : ℕ). i + j) p.counted q.counted ∙ sym (length-append xs ys);
+}
+  where
+    room : length (drop at l) ≤ n - at
+    room = omega (arith, length-drop at l, long)
+
+    front : take at l ≡ xs
+    front = rw (p.counted, p.stored) (take-append_seam xs (drop (length xs) k))
+
+    left : drop at l ≡ drop (length xs) k
+    left = rw (p.counted, p.stored) (drop-append_seam xs (drop (length xs) k))

@@ -43,11 +43,6 @@ unfolding spaced
 joined [] = []
 joined (n ∷ ns) = decimal n ++ spaced ns
 
--- number i of a line: but for the first, a space stands before it
-abbrev pub separated : (i n : ℕ) → List ℕ
-separated zero n = decimal n
-separated (suc i) n = space ∷ decimal n
-
 -- a line: its head, its numbers and one newline
 unfoldable pub line : (head numbers : List ℕ) → List ℕ
 line head ns = head ++ joined ns ++ (newline ∷ [])

@@ -1,47 +1,27 @@
-// Writing bytes and decimal numbers into a slice, from a place on. Each call answers the place after
-// what it wrote, which has to fit.
-ghost use Rattle.std.specs.Prelude.{◌≡◌, [], ◌∷◌, ◌+◌, ◌<◌, ◌≤◌, length};
-ghost use Rattle.lines.specs.Line.{decimal};
-ghost use Rattle.lines.specs.Line as Line;
-ghost use Rattle.lines.specs.Put.{Put};
+// Bytes and numbers at the front of a slice. Each call answers how many bytes it wrote, which have
+// to fit, and leaves what stands after them as it was.
+ghost use Rattle.std.specs.Prelude.{◌∷◌, ◌+◌, ◌<◌, ◌≤◌, length};
+ghost use Rattle.lines.specs.Line.{space};
+ghost use Rattle.lines.specs.Put.{Front};
 
-// One byte.
-pub(crate) fn put_byte(byte: u8, out: &mut [u8], at: usize) -> usize
-    requires { at < length out.old }
-    ensures { Put out.old at (byte ∷ []) out.new result }
-{
-    out[at] = byte;
-    at + 1
-}
+use itoa::{Buffer, Integer};
 
 // All the bytes of a slice.
-pub(crate) fn put_bytes(bytes: &[u8], out: &mut [u8], at: usize) -> usize
-    requires { at + length bytes.now ≤ length out.old }
-    ensures { Put out.old at bytes.now out.new result }
+pub(crate) fn put(bytes: &[u8], out: &mut [u8]) -> usize
+    requires { length bytes.now ≤ length out.old }
+    ensures { Front out.old bytes.now out.new result }
 {
-    let mut i = 0;
-    while i < bytes.len() {
-        out[at + i] = bytes[i];
-        i += 1;
-    }
-    at + i
+    out[..bytes.len()].copy_from_slice(bytes);
+    bytes.len()
 }
 
-// The last decimal digit of n.
-fn digit(n: u64) -> u8
-    ensures { result ≡ Line.digit n }
+// A space and a number in decimal.
+pub(crate) fn put_number<I: Integer>(n: I, out: &mut [u8]) -> usize
+    requires { I.MAX_STR_LEN < length out.old }
+    ensures text { Front out.old (space ∷ I.text n) out.new result }
+    ensures short { result ≤ I.MAX_STR_LEN + 1 }
 {
-    48 + (n % 10) as u8
-}
-
-// A number in decimal: the digits of n / 10, where that is not 0, and then the last one.
-pub(crate) fn put_decimal(n: u64, out: &mut [u8], at: usize) -> usize
-    requires { at + length (decimal n) ≤ length out.old }
-    ensures { Put out.old at (decimal n) out.new result }
-{
-    if n < 10 {
-        return put_byte(digit(n), out, at);
-    }
-    let last = put_decimal(n / 10, out, at);
-    put_byte(digit(n), out, last)
+    let mut digits = Buffer::new();
+    let at = put(b" ", out);
+    at + put(digits.format(n).as_bytes(), &mut out[at..])
 }

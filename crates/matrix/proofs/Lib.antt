@@ -1,4 +1,3 @@
 -- The laws of the matrix: how large its row sums are, for the crates above, and what the functions' proofs share.
-mod Calls
 pub mod Small
-mod Whole
+mod Wrapping

@@ -3,75 +3,83 @@ ghost use Rattle.std.specs.Prelude.{◌≡◌, ◌^◌};
 ghost use Rattle.numbers.specs.Linear.{times};
 ghost use Rattle.matrix.specs.Parts.{cyclic_matrix};
 
-use crate::wrapping::{add, mul, sub};
-
-// Answers node_152, 154, 156, 158, 153, 155, 157, 159. A pair is the sum of two products, a part a longer
-// sum; each stands inside nodes of the Rust function, and is named after the first node in it.
+// Answers node_152, 154, 156, 158, 153, 155, 157, 159. A pair is the sum of two products, a part a
+// longer sum; each stands inside nodes of the Rust function, and is named after the first in it.
 pub(crate) fn cyclic(sums: [u64; 8]) -> [u64; 8]
     ensures { result ≡ times (2 ^ 64) cyclic_matrix sums }
 {
-    let node_34 = sums[0];
-    let node_35 = sums[1];
-    let node_36 = sums[2];
-    let node_37 = sums[3];
-    let node_38 = sums[4];
-    let node_39 = sums[5];
-    let node_40 = sums[6];
-    let node_41 = sums[7];
-    let node_50 = add(node_34, node_38);
-    let node_52 = add(node_36, node_40);
-    let node_51 = add(node_35, node_39);
-    let node_53 = add(node_37, node_41);
-    let node_58 = add(node_50, node_52);
-    let node_59 = add(node_51, node_53);
-    let node_90 = sub(node_34, node_38);
-    let node_91 = sub(node_35, node_39);
-    let node_93 = sub(node_37, node_41);
-    let node_92 = sub(node_36, node_40);
-    let node_64 = mul(add(node_58, node_59), 524757);
-    let node_67 = mul(sub(node_58, node_59), 52427);
-    let node_71 = sub(node_50, node_52);
-    let node_72 = sub(node_51, node_53);
-    let node_69 = add(node_64, node_67);
-    let node_397 = sub(mul(node_71, 18446744073709525744), mul(node_72, 53918));
-    let node_1857 = mul(node_90, 395512);
-    let node_99 = add(node_91, node_93);
-    let node_1865 = mul(node_91, 18446744073709254400);
-    let node_1869 = mul(node_93, 179380);
-    let node_1873 = mul(node_92, 18446744073709509368);
-    let node_70 = sub(node_64, node_67);
-    let node_702 = add(mul(node_71, 53918), mul(node_72, 18446744073709525744));
-    let pair_1961 = add(mul(node_90, 18446744073709254400), mul(node_91, 395512));
-    let pair_1965 = add(mul(node_92, 179380), mul(node_93, 18446744073709509368));
-    let node_98 = add(node_90, node_92);
-    let node_86 = add(node_69, node_397);
-    let part_99 = add(
-        sub(
-            sub(mul(node_99, 18446744073709433780), node_1865),
-            node_1869,
-        ),
-        node_1873,
-    );
-    let node_403 = sub(node_1857, part_99);
-    let node_88 = add(node_70, node_702);
-    let node_708 = sub(pair_1961, pair_1965);
-    let node_87 = sub(node_69, node_397);
-    let part_1865 = sub(
-        sub(add(node_1865, mul(node_98, 353264)), node_1857),
-        node_1873,
-    );
-    let node_897 = sub(part_1865, node_1869);
-    let node_89 = sub(node_70, node_702);
-    let pair_98 = add(mul(node_98, 18446744073709433780), mul(node_99, 353264));
-    let node_1077 = sub(sub(pair_98, pair_1961), pair_1965);
+    let [
+        node_34,
+        node_35,
+        node_36,
+        node_37,
+        node_38,
+        node_39,
+        node_40,
+        node_41,
+    ] = sums;
+    let node_50 = node_34.wrapping_add(node_38);
+    let node_52 = node_36.wrapping_add(node_40);
+    let node_51 = node_35.wrapping_add(node_39);
+    let node_53 = node_37.wrapping_add(node_41);
+    let node_58 = node_50.wrapping_add(node_52);
+    let node_59 = node_51.wrapping_add(node_53);
+    let node_90 = node_34.wrapping_sub(node_38);
+    let node_91 = node_35.wrapping_sub(node_39);
+    let node_93 = node_37.wrapping_sub(node_41);
+    let node_92 = node_36.wrapping_sub(node_40);
+    let node_64 = node_58.wrapping_add(node_59).wrapping_mul(524757);
+    let node_67 = node_58.wrapping_sub(node_59).wrapping_mul(52427);
+    let node_71 = node_50.wrapping_sub(node_52);
+    let node_72 = node_51.wrapping_sub(node_53);
+    let node_69 = node_64.wrapping_add(node_67);
+    let node_397 = node_71
+        .wrapping_mul(18446744073709525744)
+        .wrapping_sub(node_72.wrapping_mul(53918));
+    let node_1857 = node_90.wrapping_mul(395512);
+    let node_99 = node_91.wrapping_add(node_93);
+    let node_1865 = node_91.wrapping_mul(18446744073709254400);
+    let node_1869 = node_93.wrapping_mul(179380);
+    let node_1873 = node_92.wrapping_mul(18446744073709509368);
+    let node_70 = node_64.wrapping_sub(node_67);
+    let node_702 = node_71
+        .wrapping_mul(53918)
+        .wrapping_add(node_72.wrapping_mul(18446744073709525744));
+    let pair_1961 = node_90
+        .wrapping_mul(18446744073709254400)
+        .wrapping_add(node_91.wrapping_mul(395512));
+    let pair_1965 = node_92
+        .wrapping_mul(179380)
+        .wrapping_add(node_93.wrapping_mul(18446744073709509368));
+    let node_98 = node_90.wrapping_add(node_92);
+    let node_86 = node_69.wrapping_add(node_397);
+    let part_99 = node_99
+        .wrapping_mul(18446744073709433780)
+        .wrapping_sub(node_1865)
+        .wrapping_sub(node_1869)
+        .wrapping_add(node_1873);
+    let node_403 = node_1857.wrapping_sub(part_99);
+    let node_88 = node_70.wrapping_add(node_702);
+    let node_708 = pair_1961.wrapping_sub(pair_1965);
+    let node_87 = node_69.wrapping_sub(node_397);
+    let part_1865 = node_1865
+        .wrapping_add(node_98.wrapping_mul(353264))
+        .wrapping_sub(node_1857)
+        .wrapping_sub(node_1873);
+    let node_897 = part_1865.wrapping_sub(node_1869);
+    let node_89 = node_70.wrapping_sub(node_702);
+    let pair_98 = node_98
+        .wrapping_mul(18446744073709433780)
+        .wrapping_add(node_99.wrapping_mul(353264));
+    let node_1077 = pair_98.wrapping_sub(pair_1961).wrapping_sub(pair_1965);
     [
-        add(node_86, node_403),
-        add(node_88, node_708),
-        add(node_87, node_897),
-        add(node_89, node_1077),
-        sub(node_86, node_403),
-        sub(node_88, node_708),
-        sub(node_87, node_897),
-        sub(node_89, node_1077),
+        node_86.wrapping_add(node_403),
+        node_88.wrapping_add(node_708),
+        node_87.wrapping_add(node_897),
+        node_89.wrapping_add(node_1077),
+        node_86.wrapping_sub(node_403),
+        node_88.wrapping_sub(node_708),
+        node_87.wrapping_sub(node_897),
+        node_89.wrapping_sub(node_1077),
     ]
 }

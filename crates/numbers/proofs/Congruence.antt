@@ -1,28 +1,12 @@
 -- The laws of congruence: an equivalence that sums, products, powers and totals keep. First the same as equations between remainders.
 -- Assumes nothing.
 use mathlib.Core.Path.{◌≡◌, refl, sym, ap, ◌∙◌}
-use Prim.Native.Nat.{ℕ, zero, suc, ◌+◌, ◌*◌, ◌%◌, ◌/◌, ◌^◌, ◌<◌}
-use native.Mathlib.Nat.{
-  add-mod,
-  add-mul,
-  add-mul-mod_self_left,
-  add-mul-mod_self_right,
-  add_right_cancel,
-  mod-add-div,
-  mod-eq_of_lt,
-  mod-mod,
-  mod-zero,
-  mul_assoc,
-  mul_comm,
-  mul-mul-mul_comm,
-  mul-one,
-  mul-suc,
-  mul-zero,
-  pow-suc,
-  pow-zero,
-}
-use native.Mathlib.Omega.{arith}
+use Prim.Native.Nat.{ℕ, zero, suc, ◌+◌, ◌*◌, ◌%◌, ◌^◌, ◌<◌}
+use native.Mathlib.Nat.{add-mod, add-mul-mod_self_right, mod-eq_of_lt, mod-mod, mul-one, mul-suc, mul-zero, pow-suc, pow-zero}
 use lib.Pow.{pow-add}
+-- std's laws of a product whose factors may be reduced first, by the names that the laws of the field use
+pub use Rattle.std.proofs.lemmas.Nat.{mul-mod as mod-mul, mul-mod_first as mod-mul-left, mul-mod_second as mod-mul-right}
+use Rattle.std.proofs.lemmas.Nat.{pow-mod}
 use Rattle.numbers.specs.Congruence.{Cong}
 use Rattle.numbers.specs.Lists.{total}
 
@@ -35,11 +19,6 @@ pow-pow a j (suc k) =
     pow-suc (a ^ j) k ∙ ap (λ (n : ℕ). n * a ^ j) (pow-pow a j k)
     ∙ sym (ap (λ (n : ℕ). a ^ n) (mul-suc j k) ∙ pow-add a (j * k) j)
 
--- a power of a product
-pub mul-pow : (a b k : ℕ) → (a * b) ^ k ≡ a ^ k * b ^ k
-mul-pow a b zero = rw (pow-zero (a * b), pow-zero a, pow-zero b)
-mul-pow a b (suc k) = rw (pow-suc (a * b) k, pow-suc a k, pow-suc b k, mul-pow a b k) (mul-mul-mul_comm (a ^ k) (b ^ k) a b)
-
 -- a power of 1
 pub one-pow : (k : ℕ) → 1 ^ k ≡ 1
 one-pow zero = pow-zero 1
@@ -47,33 +26,9 @@ one-pow (suc k) = pow-suc 1 k ∙ mul-one (1 ^ k) ∙ one-pow k
 
 -- Remainders
 
--- the left factor may be reduced first
-pub mod-mul-left : (a b m : ℕ) → a % m * b % m ≡ a * b % m
-mod-mul-left a b m =
-    sym (add-mul-mod_self_left (a % m * b) m (a / m * b))
-    ∙ ap (λ (n : ℕ). (a % m * b + n) % m) (sym (mul_assoc m (a / m) b))
-    ∙ ap (λ (n : ℕ). n % m) (sym (add-mul (a % m) (m * (a / m)) b))
-    ∙ ap (λ (n : ℕ). n * b % m) (mod-add-div a m)
-
--- the right factor may be reduced first
-pub mod-mul-right : (a b m : ℕ) → a * (b % m) % m ≡ a * b % m
-mod-mul-right a b m = rw (mul_comm a (b % m), mul_comm a b) (mod-mul-left b a m)
-
--- both factors may be reduced first
-pub mod-mul : (a b m : ℕ) → a * b % m ≡ a % m * (b % m) % m
-mod-mul a b m = sym (mod-mul-right (a % m) b m ∙ mod-mul-left a b m)
-
--- the base of a power may be reduced first
-pub mod-pow : (a k m : ℕ) → (a % m) ^ k % m ≡ a ^ k % m
-mod-pow a zero m = rw (pow-zero (a % m), pow-zero a)
-mod-pow a (suc k) m =
-    rw (pow-suc (a % m) k, pow-suc a k)
-    (mod-mul-right ((a % m) ^ k) a m ∙ sym (mod-mul-left ((a % m) ^ k) a m)
-    ∙ ap (λ (n : ℕ). n * a % m) (mod-pow a k m) ∙ mod-mul-left (a ^ k) a m)
-
 -- a power of a reduced power
 pub mod-pow-pow : (a j k m : ℕ) → (a ^ j % m) ^ k % m ≡ a ^ (j * k) % m
-mod-pow-pow a j k m = mod-pow (a ^ j) k m ∙ ap (λ (n : ℕ). n % m) (pow-pow a j k)
+mod-pow-pow a j k m = pow-mod (a ^ j) k m ∙ ap (λ (n : ℕ). n % m) (pow-pow a j k)
 
 -- Congruence
 
@@ -119,20 +74,11 @@ cong-mul {m} {a} {b} {c} {d} h k = record { same = mod-mul a c m ∙ rw (h.same,
 
 -- powers of congruent numbers
 pub cong-pow : {m a b : ℕ} (k : ℕ) → Cong m a b → Cong m (a ^ k) (b ^ k)
-cong-pow {m} {a} {b} k h = record { same = sym (mod-pow a k m) ∙ ap (λ (n : ℕ). n ^ k % m) h.same ∙ mod-pow b k m }
+cong-pow {m} {a} {b} k h = record { same = sym (pow-mod a k m) ∙ ap (λ (n : ℕ). n ^ k % m) h.same ∙ pow-mod b k m }
 
 -- powers of a number that is congruent to 1
 pub cong-one-pow : {m a : ℕ} (k : ℕ) → Cong m a 1 → Cong m (a ^ k) 1
 cong-one-pow k h = cong-trans (cong-pow k h) (cong-eq (one-pow k))
-
--- a number that was added on both sides may be taken away
-pub cong-add-cancel : {m a b : ℕ} (c : ℕ) → Cong m (a + c) (b + c) → Cong m a b
-cong-add-cancel {m = zero} {a} {b} c h =
-    cong-eq (add_right_cancel c (sym (mod-zero (a + c)) ∙ h.same ∙ mod-zero (b + c)))
-cong-add-cancel {m = suc m} {a} {b} c h = cong-trans (cong-sym (whole a)) (cong-trans (cong-add h cong-refl) (whole b))
-  where
-    whole : (x : ℕ) → Cong (suc m) (x + c + m * c) x
-    whole x = cong-trans (cong-eq (omega arith)) (cong-multiple c)
 
 -- totals of summands that are congruent one by one
 pub cong-total : {m : ℕ} (n i : ℕ) {f g : ℕ → ℕ} → ((c : ℕ) → Cong m (f c) (g c)) → Cong m (total n i f) (total n i g)

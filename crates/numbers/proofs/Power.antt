@@ -7,8 +7,9 @@ use native.Mathlib.Nat.{div-add-mod', le_refl, pow-zero}
 use native.Mathlib.Omega.{arith}
 use lib.Arith.{le-zero}
 use lib.Pow.{pow-add}
+use Rattle.std.proofs.lemmas.Nat.{mul-pow}
 use Rattle.numbers.specs.Congruence.{Cong}
-use Rattle.numbers.proofs.Congruence.{cong-eq, cong-mod, cong-mul, cong-pow, cong-refl, cong-trans, mul-pow}
+use Rattle.numbers.proofs.Congruence.{cong-eq, cong-mod, cong-mul, cong-pow, cong-refl, cong-trans}
 
 -- x ^ e modulo m: the square of x to half of e, times x if e is odd. The depth bounds the number of halvings.
 unfoldable pub pow_within : (depth m x e : ℕ) → ℕ

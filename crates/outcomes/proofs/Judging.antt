@@ -3,14 +3,18 @@
 use Rattle.refusals.proofs.judge.judge_words.Reads as judge-words
 use Rattle.refusals.proofs.judge.judge_length.Reads as judge-length
 use Rattle.refusals.proofs.judge.judge_round.Reads as judge-round
+use Rattle.refusals.proofs.refusal.number.Reads as number
 use Rattle.outcomes.specs.Outcome.{OneAnswer}
 use Rattle.outcomes.proofs.Same.{same}
 
 pub judge-words-once : OneAnswer judge-words.Learnt
-judge-words-once κs a x y e f h k = same h k
+judge-words-once κs a x y e f h k = same h.0 k.0
 
 pub judge-length-once : OneAnswer judge-length.Learnt
-judge-length-once κs a x y e f h k = same h k
+judge-length-once κs a x y e f h k = same h.0 k.0
 
 pub judge-round-once : OneAnswer judge-round.Learnt
 judge-round-once κs a x y e f h k = same h k
+
+pub number-once : OneAnswer number.Learnt
+number-once κs a x y e f h k = same h k

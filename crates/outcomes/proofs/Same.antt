@@ -8,6 +8,14 @@ use seplogic.Ra.Ura.{Ura}
 pub same {ℓ} : {A : Type ℓ} {x y z : A} → x ≡ z → y ≡ z → x ≡ y
 same h k = h ∙ sym k
 
+-- of two equal pairs
+
+pub one {ℓ m} : {A : Type ℓ} {B : Type m} {p q : A × B} → p ≡ q → p.0 ≡ q.0
+one e = λ i. (e i).0
+
+pub other {ℓ m} : {A : Type ℓ} {B : Type m} {p q : A × B} → p ≡ q → p.1 ≡ q.1
+other e = λ i. (e i).1
+
 pub both : {M : Type 1} (𝓤 : Ura M) {φ ψ χ : Type 0} → (φ → ψ → χ) → ent 𝓤 (conj 𝓤 (fact 𝓤 φ) (fact 𝓤 ψ)) (fact 𝓤 χ)
 both 𝓤 {φ} {ψ} {χ} g =
     fact_use 𝓤 φ (conj_l 𝓤 (fact 𝓤 φ) (fact 𝓤 ψ)) λ h.

@@ -1,41 +1,41 @@
 // The permutation, a round, the trace and the matrix function behind them.
-ghost use Rattle.std.specs.Prelude.{◌≡◌, ◌*◌, ◌%◌, ◌^◌};
+ghost use Rattle.std.specs.Prelude.{◌≡◌, ◌*◌, ◌%◌, ◌^◌, replicate};
 ghost use Rattle.numbers.specs.Lists.{tab};
 ghost use Rattle.numbers.specs.Circulant.{row_sum};
 ghost use Rattle.matrix.specs.Column.{mds_column};
 ghost use Rattle.rounds.specs.Round.{permuted};
 ghost use Rattle.rounds.specs.Round as Round;
 ghost use Rattle.refusals.specs.Judge.{unless};
+ghost use Rattle.refusals.specs.Number.{handed, number};
 ghost use Rattle.states.specs.InPlace.{round_slice_refusal, slice_refusal};
 ghost use Rattle.states.specs.Trace as Trace;
-ghost use Rattle.probe.specs.Answers.{trace_answer};
 
+use crate::handing::hand_out;
+use refusals::refusal::number;
 use states::{in_place, trace};
 
 #[unsafe(no_mangle)]
 pub extern "C" fn probe_permutation(state: &mut [u64]) -> u32
-    ensures value { result ≡ slice_refusal state.old }
+    ensures value { result ≡ number (slice_refusal state.old) }
     ensures state_after { state.new ≡ unless (slice_refusal state.old) (permuted state.old) state.old }
 {
-    in_place::permute(state) as u32
+    number(in_place::permute(state))
 }
 
 #[unsafe(no_mangle)]
 pub extern "C" fn probe_round(round: usize, state: &mut [u64]) -> u32
-    ensures value { result ≡ round_slice_refusal round state.old }
+    ensures value { result ≡ number (round_slice_refusal round state.old) }
     ensures state_after { state.new ≡ unless (round_slice_refusal round state.old) (Round.round round state.old) state.old }
 {
-    in_place::permute_round(round, state) as u32
+    number(in_place::permute_round(round, state))
 }
 
 #[unsafe(no_mangle)]
 pub extern "C" fn probe_trace(state: &[u64; 16], six: &mut [u64; 96]) -> u32
-    ensures { trace_answer result six.new ≡ Trace.trace state.now }
+    ensures { (result, six.new) ≡ handed (Trace.trace state.now) (replicate 96 0) }
 {
-    let answer = trace::trace(*state);
-    let states = answer.states;
-    *six = states;
-    answer.refusal as u32
+    *six = [0; 96];
+    hand_out(trace::trace(*state), six)
 }
 
 #[unsafe(no_mangle)]

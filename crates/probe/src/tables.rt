@@ -1,10 +1,13 @@
 // Tables: the digests of their rows, and a view of one column.
 ghost use Rattle.std.specs.Prelude.{◌≡◌};
+ghost use Rattle.refusals.specs.Number.{handed, number};
 ghost use Rattle.columns.specs.Column.{entry, row_count};
 ghost use Rattle.rows.specs.Rows.{hashed_rows, rows_refusal};
-ghost use Rattle.probe.specs.Answers.{count_answer, entry_answer};
 
-use columns::{Column, CountAnswer};
+use crate::handing::hand_out;
+use columns::Column;
+use refusals::Refusal;
+use refusals::refusal::number;
 use rows::hash_rows;
 
 #[unsafe(no_mangle)]
@@ -15,10 +18,28 @@ pub extern "C" fn probe_hash_rows_of_columns(
     width: usize,
     digests: &mut [u64],
 ) -> u32
-    ensures value { result ≡ rows_refusal words.now columns rows width digests.old }
+    ensures value { result ≡ number (rows_refusal words.now columns rows width digests.old) }
     ensures digests_after { digests.new ≡ hashed_rows words.now columns rows width digests.old }
 {
-    hash_rows::hash_rows_of_columns(words, columns, rows, width, digests) as u32
+    number(hash_rows::hash_rows_of_columns(words, columns, rows, width, digests))
+}
+
+// A number of rows, 0 where the call is refused.
+fn hand_out_count(answer: Result<usize, Refusal>, count: &mut u64) -> u32
+    ensures { (result, count.new) ≡ handed answer 0 }
+{
+    let mut given = 0;
+    let refusal = hand_out(answer, &mut given);
+    *count = given as u64;
+    refusal
+}
+
+// A word, 0 where the call is refused.
+fn hand_out_word(answer: Result<u64, Refusal>, word: &mut u64) -> u32
+    ensures { (result, word.new) ≡ handed answer 0 }
+{
+    *word = 0;
+    hand_out(answer, word)
 }
 
 #[unsafe(no_mangle)]
@@ -28,11 +49,9 @@ pub extern "C" fn probe_row_count(
     offset: usize,
     count: &mut u64,
 ) -> u32
-    ensures { count_answer result count.new ≡ row_count words.now stride offset }
+    ensures { (result, count.new) ≡ handed (row_count words.now stride offset) 0 }
 {
-    let answer = columns::row_count(words, stride, offset);
-    *count = answer.count as u64;
-    answer.refusal as u32
+    hand_out_count(columns::row_count(words, stride, offset), count)
 }
 
 #[unsafe(no_mangle)]
@@ -43,11 +62,9 @@ pub extern "C" fn probe_entry(
     row: usize,
     word: &mut u64,
 ) -> u32
-    ensures { entry_answer result word.new ≡ entry words.now stride offset row }
+    ensures { (result, word.new) ≡ handed (entry words.now stride offset row) 0 }
 {
-    let answer = columns::entry(words, stride, offset, row);
-    *word = answer.word;
-    answer.refusal as u32
+    hand_out_word(columns::entry(words, stride, offset, row), word)
 }
 
 #[unsafe(no_mangle)]
@@ -58,23 +75,9 @@ pub extern "C" fn probe_column_entry(
     row: usize,
     word: &mut u64,
 ) -> u32
-    ensures { entry_answer result word.new ≡ entry words.now stride offset row }
+    ensures { (result, word.new) ≡ handed (entry words.now stride offset row) 0 }
 {
-    let answer = columns::column_entry(words, stride, offset, row);
-    *word = answer.word;
-    answer.refusal as u32
-}
-
-// The rows of a view that is made for it.
-fn column_rows(words: &[u64], stride: usize, offset: usize) -> CountAnswer
-    ensures { result ≡ row_count words.now stride offset }
-{
-    let column = Column {
-        elements: words,
-        stride,
-        offset,
-    };
-    column.num_rows()
+    hand_out_word(columns::column_entry(words, stride, offset, row), word)
 }
 
 #[unsafe(no_mangle)]
@@ -84,9 +87,12 @@ pub extern "C" fn probe_column_rows(
     offset: usize,
     count: &mut u64,
 ) -> u32
-    ensures { count_answer result count.new ≡ row_count words.now stride offset }
+    ensures { (result, count.new) ≡ handed (row_count words.now stride offset) 0 }
 {
-    let answer = column_rows(words, stride, offset);
-    *count = answer.count as u64;
-    answer.refusal as u32
+    let column = Column {
+        elements: words,
+        stride,
+        offset,
+    };
+    hand_out_count(column.num_rows(), count)
 }

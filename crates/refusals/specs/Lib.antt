@@ -1,2 +1,3 @@
 -- What is refused, and which refusal comes first.
 pub mod Judge
+pub mod Number

@@ -1,39 +1,52 @@
-// Judging words, lengths and rounds. Each answers its refusal or 0.
-ghost use Rattle.std.specs.Prelude.{◌≡◌};
+// Judging words, lengths and rounds: each answers its refusal, and nothing where there is none.
+ghost use Rattle.std.specs.Prelude.{◌≡◌, ◌↔◌, ◌<◌, IsTrue, OnOk, length};
+ghost use Rattle.std.specs.List.{All};
+ghost use Rattle.numbers.specs.Modulus.{P};
+ghost use Rattle.rounds.specs.Field.{Below};
 ghost use Rattle.refusals.specs.Judge.{length_refusal, round_refusal, word_refusal};
 
+use crate::Refusal;
 use rounds::P;
 
-// Refusal 1 where a word of the slice is P or more.
-pub fn judge_words(words: &[u64]) -> u8
-    ensures { result ≡ word_refusal words.now }
+// Whether each word is below P.
+fn are_below(words: &[u64]) -> bool
+    ensures { IsTrue result ↔ All (λ w. w < P) words.now }
 {
-    let mut i = 0;
-    while i < words.len() {
-        if P <= words[i] {
-            return crate::BAD_WORD;
-        }
-        i += 1;
-    }
-    crate::NONE
+    words.iter().all(|&word| word < P)
 }
 
-// Refusal 2 where there are not as many words as wanted.
-pub fn judge_length(wanted: usize, words: &[u64]) -> u8
-    ensures { result ≡ length_refusal wanted words.now }
+/// `BadWord` where a word of the slice is P or more.
+#[tactic(auto, using(crate::proofs::JudgeLaws::accepted_all, crate::proofs::JudgeLaws::refused_some))]
+pub fn judge_words(words: &[u64]) -> Result<(), Refusal>
+    ensures value { result ≡ word_refusal words.now }
+    ensures below { OnOk result (Below words.now) }
+{
+    if are_below(words) {
+        Ok(())
+    } else {
+        Err(Refusal::BadWord)
+    }
+}
+
+/// `WrongLength` where there are not as many words as wanted.
+pub fn judge_length(wanted: usize, words: &[u64]) -> Result<(), Refusal>
+    ensures value { result ≡ length_refusal wanted words.now }
+    ensures long { OnOk result (length words.now ≡ wanted) }
 {
     if words.len() == wanted {
-        return crate::NONE;
+        Ok(())
+    } else {
+        Err(Refusal::WrongLength)
     }
-    crate::WRONG_LENGTH
 }
 
-// Refusal 8 where there is no such round.
-pub fn judge_round(round: usize) -> u8
+/// `NoSuchRound` where there is no such round.
+pub fn judge_round(round: usize) -> Result<(), Refusal>
     ensures { result ≡ round_refusal round }
 {
     if round < 5 {
-        return crate::NONE;
+        Ok(())
+    } else {
+        Err(Refusal::NoSuchRound)
     }
-    crate::NO_SUCH_ROUND
 }

@@ -3,93 +3,54 @@
 
 mod vectors;
 
+use refusals::Refusal;
 use std::io;
-use tip5::b_field_element::{BFieldElement, ElementAnswer, Value};
+use tip5::b_field_element::{BFieldElement, Value};
 
-// A call's refusal, 0 for none, and its answer.
-#[derive(Clone, Copy)]
-struct Given {
-    refusal: u8,
-    word: u64,
+/// The calls of the field.
+#[derive(Clone, Copy, Debug, PartialEq, Eq, Hash)]
+pub enum Call {
+    New,
+    FromRawU64,
+    RawU64,
+    Value,
+    Add,
+    Sub,
+    Mul,
+    ModPow,
 }
 
-fn of_element(answer: ElementAnswer) -> Given {
-    let element = answer.element;
-    Given {
-        refusal: answer.refusal,
-        word: element.0,
-    }
-}
+/// A call, the words that go in, the second 0 where there is none, and the answer.
+pub type Case = (Call, u64, u64, Result<u64, Refusal>);
 
-// The call of a number, as the stored cases number them.
-fn answer(call: u64, a: u64, b: u64) -> Given {
+// A table of stored cases can hold no functions that take this one or those two arguments, so each call is a variant.
+fn answer(call: Call, a: u64, b: u64) -> Result<u64, Refusal> {
     let x = BFieldElement(a);
     let y = BFieldElement(b);
     match call {
-        0 => {
-            let element = BFieldElement::new(Value(a));
-            Given {
-                refusal: 0,
-                word: element.0,
-            }
-        }
-        1 => of_element(BFieldElement::from_raw_u64(a)),
-        2 => {
-            let got = x.raw_u64();
-            Given {
-                refusal: got.refusal,
-                word: got.word,
-            }
-        }
-        3 => {
-            let got = x.value();
-            let value = got.value;
-            Given {
-                refusal: got.refusal,
-                word: value.0,
-            }
-        }
-        4 => of_element(x.add(y)),
-        5 => of_element(x.sub(y)),
-        6 => of_element(x.mul(y)),
-        _ => of_element(x.mod_pow(b)),
+        Call::New => Ok(BFieldElement::new(Value(a)).0),
+        Call::FromRawU64 => Ok(BFieldElement::from_raw_u64(a)?.0),
+        Call::RawU64 => x.raw_u64(),
+        Call::Value => Ok(x.value()?.0),
+        Call::Add => Ok(x.add(y)?.0),
+        Call::Sub => Ok(x.sub(y)?.0),
+        Call::Mul => Ok(x.mul(y)?.0),
+        Call::ModPow => Ok(x.mod_pow(b)?.0),
     }
-}
-
-fn wide(byte: u8) -> u64 {
-    byte as u64
-}
-
-// 1 where case i answers anything but what is stored, otherwise 0.
-fn difference(i: usize) -> u64 {
-    if vectors::CASES <= i {
-        return 1;
-    }
-    let calls = vectors::CALL;
-    let a = vectors::A;
-    let b = vectors::B;
-    let refusals = vectors::REFUSAL;
-    let answers = vectors::ANSWER;
-    let got = answer(calls[i], a[i], b[i]);
-    if wide(got.refusal) != refusals[i] {
-        return 1;
-    }
-    if got.word != answers[i] {
-        return 1;
-    }
-    0
 }
 
 // How many of the stored cases differ.
-fn different() -> u64 {
-    let mut found: u64 = 0;
-    for i in 0..vectors::CASES {
-        found = found.wrapping_add(difference(i));
-    }
-    found
+fn different() -> usize {
+    vectors::CASES
+        .iter()
+        .filter(|(call, a, b, want)| answer(*call, *a, *b) != *want)
+        .count()
 }
 
 fn main(rt: HostRuntime) -> io::Result<()> {
-    let found = different();
-    println!(rt; "field: {} cases, {found} different", vectors::CASES)
+    println!(rt;
+        "field: {} cases, {} different",
+        vectors::CASES.len(),
+        different()
+    )
 }

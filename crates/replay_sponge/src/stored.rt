@@ -1,124 +1,92 @@
-// The stored answers. Each function runs case i and is 1 where the answer differs, otherwise 0.
-ghost use Rattle.std.specs.Prelude.{◌≤◌};
+// The stored answers, group by group: each function makes the calls of a group and counts them.
+use crate::vectors::{CHAIN, FIXED_LENGTH, LIST, LIST_DIGESTS, PADDED, TEN_DIGESTS, TENS};
+use replay::Tally;
+use sponge::step_back::{StepKind, step_back};
+use sponge::{Domain, RATE, Tip5, by_value};
 
-use crate::vectors;
-use replay::{differ, part, sixteen};
-use sponge::by_value::{SpongeAnswer, SqueezeAnswer};
-use sponge::digest::DigestAnswer;
-use sponge::step_back::StepKind;
-use sponge::{Domain, Tip5, by_value, step_back};
+// A state of the chain.
+fn chained(state: &[u64; 16]) -> Tip5 {
+    Tip5 { state: *state }
+}
 
-// 1 where a call is refused or answers another digest.
-fn digest_differs(answer: DigestAnswer, want: &[u64]) -> u64 {
-    if answer.refusal != 0 {
-        return 1;
+pub(crate) fn starts() -> Tally {
+    let mut tally = Tally::default();
+    tally.note(Tip5::init() == chained(&CHAIN[0]));
+    tally.note(Tip5::new(Domain::FixedLength) == chained(&FIXED_LENGTH));
+    tally
+}
+
+// Step i of the chain leads from state i to the next: every even one absorbs a ten, every odd one squeezes. By place, since
+// both states of a step stand in one table.
+pub(crate) fn steps() -> Tally {
+    let mut tally = Tally::default();
+    for i in 0..TENS.len() {
+        let before = chained(&CHAIN[i]);
+        let after = chained(&CHAIN[i + 1]);
+        let same = if i % 2 == 0 {
+            by_value::absorb(before, &TENS[i]) == Ok(after)
+        } else {
+            by_value::squeeze(before).is_ok_and(|(next, ten)| {
+                next == after && ten.as_slice() == &before.state[..RATE]
+            })
+        };
+        tally.note(same);
     }
-    let got = answer.digest;
-    differ(&got, want)
+    tally
 }
 
-fn state_differs(sponge: Tip5, want: &[u64]) -> u64 {
-    let got = sponge.state;
-    differ(&got, want)
-}
-
-fn sponge_differs(answer: SpongeAnswer, want: &[u64]) -> u64 {
-    if answer.refusal != 0 {
-        return 1;
+// The same steps undone, each with the words that it had overwritten.
+pub(crate) fn steps_back() -> Tally {
+    let mut tally = Tally::default();
+    for i in 0..TENS.len() {
+        let before = chained(&CHAIN[i]);
+        let after = chained(&CHAIN[i + 1]);
+        let kind = if i % 2 == 0 {
+            StepKind::Absorb
+        } else {
+            StepKind::Squeeze
+        };
+        tally.note(step_back(kind, after, &before.state[..RATE]) == Ok(before));
     }
-    state_differs(answer.sponge, want)
+    tally
 }
 
-fn squeeze_differs(answer: SqueezeAnswer, ten: &[u64], want: &[u64]) -> u64 {
-    if answer.refusal != 0 {
-        return 1;
+// Words of the list between two lengths that are padded.
+const STRIDE: usize = 6;
+
+pub(crate) fn padded() -> Tally {
+    let mut tally = Tally::default();
+    for i in 0..PADDED.len() {
+        let input = &LIST[..STRIDE * i];
+        let want = chained(&PADDED[i]);
+        tally.note(by_value::pad_and_absorb_all(chained(&CHAIN[i]), input) == Ok(want));
     }
-    let got = answer.ten;
-    if differ(&got, ten) != 0 {
-        return 1;
+    tally
+}
+
+pub(crate) fn tens() -> Tally {
+    let mut tally = Tally::default();
+    for (ten, digest) in TENS.iter().zip(&TEN_DIGESTS) {
+        tally.note(Tip5::hash_10(ten) == Ok(*digest));
     }
-    state_differs(answer.sponge, want)
+    tally
 }
 
-// State i of the chain.
-fn chained(i: usize) -> Tip5
-    requires { i ≤ 1001 }
-{
-    let chain = vectors::CHAIN;
-    Tip5 {
-        state: sixteen(part(&chain, 16 * i, 16)),
+// The two halves of each ten.
+pub(crate) fn pairs() -> Tally {
+    let mut tally = Tally::default();
+    for (ten, digest) in TENS.iter().zip(&TEN_DIGESTS) {
+        let (left, right) = ten.split_at(5);
+        tally.note(Tip5::hash_pair(left, right) == Ok(*digest));
     }
+    tally
 }
 
-pub(crate) fn start(i: usize) -> u64 {
-    if i == 0 {
-        let chain = vectors::CHAIN;
-        return state_differs(Tip5::init(), part(&chain, 0, 16));
+// The first words of the list, so many of them as a digest has before it.
+pub(crate) fn lists() -> Tally {
+    let mut tally = Tally::default();
+    for n in 0..LIST_DIGESTS.len() {
+        tally.note(Tip5::hash_varlen(&LIST[..n]) == Ok(LIST_DIGESTS[n]));
     }
-    let fixed = vectors::FIXED_LENGTH;
-    state_differs(Tip5::new(Domain::FixedLength), &fixed)
-}
-
-pub(crate) fn step(i: usize) -> u64
-    requires { i ≤ 1000 }
-{
-    let tens = vectors::TENS;
-    let chain = vectors::CHAIN;
-    let want = part(&chain, 16 * i + 16, 16);
-    if i % 2 == 0 {
-        let ten = part(&tens, 10 * i, 10);
-        return sponge_differs(by_value::absorb(chained(i), ten), want);
-    }
-    let ten = part(&chain, 16 * i, 10);
-    squeeze_differs(by_value::squeeze(chained(i)), ten, want)
-}
-
-pub(crate) fn step_back(i: usize) -> u64
-    requires { i ≤ 1000 }
-{
-    let chain = vectors::CHAIN;
-    let want = part(&chain, 16 * i, 16);
-    let saved = part(&chain, 16 * i, 10);
-    if i % 2 == 0 {
-        let answer = step_back::step_back(StepKind::Absorb, chained(i + 1), saved);
-        return sponge_differs(answer, want);
-    }
-    let answer = step_back::step_back(StepKind::Squeeze, chained(i + 1), saved);
-    sponge_differs(answer, want)
-}
-
-pub(crate) fn padded(i: usize) -> u64
-    requires { i ≤ 1000 }
-{
-    let list = vectors::LIST;
-    let padded = vectors::PADDED;
-    let answer = by_value::pad_and_absorb_all(chained(i), part(&list, 0, 6 * i));
-    sponge_differs(answer, part(&padded, 16 * i, 16))
-}
-
-pub(crate) fn hash_10(i: usize) -> u64
-    requires { i ≤ 1000 }
-{
-    let tens = vectors::TENS;
-    let digests = vectors::TEN_DIGESTS;
-    let answer = Tip5::hash_10(part(&tens, 10 * i, 10));
-    digest_differs(answer, part(&digests, 5 * i, 5))
-}
-
-pub(crate) fn hash_pair(i: usize) -> u64
-    requires { i ≤ 1000 }
-{
-    let tens = vectors::TENS;
-    let digests = vectors::TEN_DIGESTS;
-    let answer = Tip5::hash_pair(part(&tens, 10 * i, 5), part(&tens, 10 * i + 5, 5));
-    digest_differs(answer, part(&digests, 5 * i, 5))
-}
-
-pub(crate) fn hash_varlen(i: usize) -> u64
-    requires { i ≤ 1000 }
-{
-    let list = vectors::LIST;
-    let digests = vectors::LIST_DIGESTS;
-    let answer = Tip5::hash_varlen(part(&list, 0, i));
-    digest_differs(answer, part(&digests, 5 * i, 5))
+    tally
 }

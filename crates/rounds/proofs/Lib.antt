@@ -1,6 +1,5 @@
 -- The laws of this crate's definitions.
 pub mod BytewiseBelow
-pub mod BytewiseLaws
 pub mod BytewiseUndone
 pub mod CirculantLaws
 pub mod ConstantLaws

@@ -1,4 +1,4 @@
--- The tables that the inverse rounds are lent.
+-- The tables that the inverse rounds read.
 use Rattle.std.specs.Prelude.{List, ℕ, get_or}
 use Rattle.numbers.specs.Lists.{tab}
 use Rattle.rounds.specs.Constants.{inv_mds_column}

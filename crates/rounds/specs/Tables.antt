@@ -1,4 +1,4 @@
--- The tables that the fast rounds are lent.
+-- The tables that the fast rounds read.
 use Rattle.std.specs.Prelude.{List, ℕ, get_or}
 use Rattle.numbers.specs.Lists.{tab}
 use Rattle.rounds.specs.Constants.{round_constants}

@@ -1,7 +1,6 @@
-// The tables of the way back. A constant array is laid out anew wherever it is named, so the
-// inverse permutation names each once and lends it to the rounds.
+// The tables of the way back, to be indexed where they are named, as those of tables.rt.
 
-// What each byte of words 0 to 3 is looked up in: LOOKUP_TABLE undone.
+/// What each byte of words 0 to 3 is looked up in: LOOKUP_TABLE undone.
 pub const INV_LOOKUP_TABLE: [u8; 256] = [
     0, 248, 146, 63, 209, 108, 39, 1, 20, 118, 139, 155, 99, 193, 29, 240, 222, 88, 170, 75, 225,
     164, 94, 36, 152, 227, 2, 246, 51, 16, 117, 127, 19, 14, 175, 58, 153, 173, 50, 162, 250, 247,
@@ -18,7 +17,7 @@ pub const INV_LOOKUP_TABLE: [u8; 256] = [
     216, 147, 46, 192, 109, 7, 255,
 ];
 
-// The first column of the inverse matrix, as raw words.
+/// The first column of the inverse matrix, as raw words.
 pub const INV_MDS_MATRIX_FIRST_COLUMN: [u64; 16] = [
     8843870954199156332,
     16505788454643163099,

@@ -1,7 +1,7 @@
-// The tables of Tip5. A constant array is laid out anew wherever it is named, so the permutation
-// names each once and lends it to the rounds.
+// The tables of Tip5. A constant array that is indexed where it is named is read-only data; one that is
+// bound to a variable, or gone over by a loop, is laid out on the stack. So the code reads entries in place.
 
-// What each byte of words 0 to 3 is looked up in.
+/// What each byte of words 0 to 3 is looked up in.
 pub const LOOKUP_TABLE: [u8; 256] = [
     0, 7, 26, 63, 124, 215, 85, 254, 214, 228, 45, 185, 140, 173, 33, 240, 29, 177, 176, 32, 8,
     110, 87, 202, 204, 99, 150, 106, 230, 14, 235, 128, 213, 239, 212, 138, 23, 130, 208, 6, 44,
@@ -18,7 +18,7 @@ pub const LOOKUP_TABLE: [u8; 256] = [
     1, 170, 40, 131, 192, 229, 248, 255,
 ];
 
-// The raw words of the round constants: round i adds entries 16 * i to 16 * i + 15.
+/// The raw words of the round constants: round i adds entries 16 * i to 16 * i + 15.
 pub const ROUND_CONSTANTS: [u64; 80] = [
     7037825344483254583,
     15660281237101973268,

@@ -1,51 +1,52 @@
--- Digests of rows: the first ones at the front of the room, one more, and all.
+-- Digests of rows: none, one more, how many there are and how long they are in their room; and where a digest stands in a sponge.
 -- Assumes nothing.
-use mathlib.Core.List.{List, ◌++◌, append-nil}
-use mathlib.Core.Path.{◌≡◌, ap, ◌∙◌}
-use Prim.Native.Nat.{ℕ, ◌+◌, ◌*◌, ◌≤◌}
+use mathlib.Core.List.{List, [], ◌++◌}
+use mathlib.Core.Path.{◌≡◌, refl, ap}
+use Prim.Native.Nat.{ℕ, zero, suc, ◌+◌, ◌*◌, ◌≤◌}
+use native.Mathlib.Numerals.{add-one}
 use native.Mathlib.Omega.{arith}
-use lib.ListN.{drop, length, take, length-append, length-drop, drop_of_length-le}
-use lib.Seq.{paste}
+use lib.ListN.{drop, length, take, length-append, length-drop}
 use Rattle.sponge.specs.declared.Domain.TheVariants.{VariableLength}
 use Rattle.sponge.specs.declared.Tip5.{Tip5}
 use Rattle.sponge.specs.Digest.{digest, digest_of}
 use Rattle.sponge.specs.History.{padded_steps, run}
 use Rattle.sponge.specs.Sponge.{start}
 use Rattle.sponge.proofs.DigestLaws.{digest_of-length}
-use Rattle.rows.specs.declared.row.Shape.{Shape}
+use Rattle.rows.specs.declared.table.Table.{Table}
+use Rattle.rows.specs.Rows.{digest_count, joined}
 use Rattle.rows.specs.Table.{digests_in, row_in}
-use Rattle.rows.proofs.JoinedLaws.{joined_length, joined-paste}
+use Rattle.rows.proofs.JoinedLaws.{joined_length}
+
+pub digests_none : (t : Table) → digests_in t 0 ≡ []
+unfolding joined
+digests_none t = refl
+
+pub digests_more : (t : Table) (n : ℕ) → digests_in t (n + 1) ≡ digests_in t n ++ digest_of (row_in t n)
+unfolding joined
+digests_more t n = ap (digests_in t) (add-one n)
+
+-- no more digests than rows
+pub count_le : (columns rows : ℕ) → digest_count columns rows ≤ rows
+unfolding digest_count
+count_le zero rows = omega arith
+count_le (suc n) rows = omega arith
 
 -- the digest is the first five words of the sponge that absorbed the list
-digest_of-take : (ws : List ℕ) {s : Tip5} → s ≡ run (padded_steps ws) (start VariableLength) → take 5 s.state ≡ digest_of ws
+pub digest_of-take : (ws : List ℕ) {s : Tip5} → s ≡ run (padded_steps ws) (start VariableLength) → take 5 s.state ≡ digest_of ws
 unfolding digest_of digest
 digest_of-take ws e = ap (λ (s : Tip5). take 5 s.state) e
 
--- Rows
-
--- the digests of the first rows where they are written, in room for all
-module _ (words : List ℕ) (shape : Shape) (room : List ℕ) where
+-- the digests of the first n rows in room for all
+module _ (t : Table) (room : List ℕ) where
   -- five words a digest
-  digests-length : (n : ℕ) → length (digests_in words shape n) ≡ n * 5
-  digests-length n = joined_length _ 5 n λ i l. digest_of-length (row_in words shape i)
+  digests-length : (n : ℕ) → length (digests_in t n) ≡ n * 5
+  digests-length n = joined_length _ 5 n λ i l. digest_of-length (row_in t i)
 
-  -- the digests of the first n rows, and the room as it was after them
-  abbrev front : ℕ → List ℕ
-  front n = digests_in words shape n ++ drop (n * 5) room
+  -- and the room as it was after them
+  abbrev pub front : ℕ → List ℕ
+  front n = digests_in t n ++ drop (n * 5) room
 
-  -- as long as the room
+  -- they leave the room as long as it was
   pub front_length : (n : ℕ) → n * 5 ≤ length room → length (front n) ≡ length room
   front_length n h =
-      omega (arith, length-append (digests_in words shape n) (drop (n * 5) room), length-drop (n * 5) room, digests-length n)
-
-  -- one digest more
-  pub front-more : (n : ℕ) {s : Tip5} {before after : List ℕ} → before ≡ front n → s ≡ run (padded_steps (row_in words shape n)) (start VariableLength)
-      → after ≡ paste before (n * 5) s.state 5 → after ≡ front (n + 1)
-  front-more n {s = s} same absorbed pasted =
-      pasted
-      ∙ ap (λ (digests : List ℕ). paste digests (n * 5) s.state 5) same
-      ∙ joined-paste _ 5 n room s.state (λ i l. digest_of-length (row_in words shape i)) (digest_of-take (row_in words shape n) absorbed)
-
-  -- all
-  pub front-all : (n : ℕ) → length room ≡ n * 5 → front n ≡ digests_in words shape n
-  front-all n h = ap (λ (rest : List ℕ). digests_in words shape n ++ rest) (drop_of_length-le room {i = n * 5} (omega arith)) ∙ append-nil (digests_in words shape n)
+      omega (arith, length-append (digests_in t n) (drop (n * 5) room), length-drop (n * 5) room, digests-length n)

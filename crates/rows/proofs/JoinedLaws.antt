@@ -1,15 +1,14 @@
--- Lists of one length, one after another: how long they are together, which word stands at a place, and one list more.
+-- Lists of one length, one after another: how long they are together, and which word stands at a place.
 -- Assumes nothing.
 use mathlib.Core.List.{List, ◌++◌}
-use mathlib.Core.Path.{◌≡◌, ap, ap₂, sym, ◌∙◌}
+use mathlib.Core.Path.{◌≡◌, ap, sym, ◌∙◌}
 use Prim.Native.Nat.{ℕ, zero, suc, ◌+◌, ◌*◌, ◌/◌, ◌%◌, ◌<◌}
 use native.Mathlib.Nat.{div-add-mod', div-eq_of_lt-le}
-use native.Mathlib.Numerals.{add-one}
 use native.Mathlib.Omega.{arith}
 use native.Mathlib.Decide.{dec_lt}
 use lib.Dec.{lit<}
-use lib.ListN.{drop, get_or, length, take, length-append, get_or-append}
-use lib.Seq.{drop_at, drop-drop, get_or-append-add, paste, take_at}
+use lib.ListN.{get_or, length, length-append, get_or-append}
+use lib.Seq.{get_or-append-add}
 use Rattle.rounds.specs.Field.{Below}
 use Rattle.sponge.proofs.BelowLaws.{append-below}
 use Rattle.rows.specs.Rows.{joined}
@@ -47,23 +46,3 @@ module _ (lists : ℕ → List ℕ) (w : ℕ) where
           ap (λ (j : ℕ). get_or (joined n lists ++ lists n) j 0) m
           ∙ get_or-append-add (joined n lists) (lists n) (k % w) 0
           ∙ ap (λ (q : ℕ). get_or (lists q) (k % w) 0) (sym e)
-
-  -- one list more is pasted behind the others
-  pub joined-paste : (n : ℕ) (room part : List ℕ) → ((i : ℕ) → i < n → length (lists i) ≡ w) → take w part ≡ lists n
-      → paste (joined n lists ++ drop (n * w) room) (n * w) part w ≡ joined (n + 1) lists ++ drop ((n + 1) * w) room
-  unfolding joined
-  joined-paste n room part h e =
-      ap₂ ◌++◌ (ap₂ ◌++◌ (take_at (joined n lists) (drop (n * w) room) (n * w) long) e) rest
-      ∙ ap₂ (λ (m k : ℕ). joined m lists ++ drop k room) (sym (add-one n)) places
-    where
-      long : length (joined n lists) ≡ n * w
-      long = joined_length n h
-
-      rest : drop (n * w + w) (joined n lists ++ drop (n * w) room) ≡ drop (n * w + w) room
-      rest =
-          sym (drop-drop w (n * w) (joined n lists ++ drop (n * w) room))
-          ∙ ap (drop w) (drop_at (joined n lists) (drop (n * w) room) (n * w) long)
-          ∙ drop-drop w (n * w) room
-
-      places : n * w + w ≡ (n + 1) * w
-      places = omega arith

@@ -1,7 +1,8 @@
 -- Hashing of rows: which words a row has, the digests of all rows, the refusals in their order, and what stands in the digest slice
 -- after the call.
-use Rattle.std.specs.Prelude.{cond, ◌||◌, List, [], ◌∷◌, ◌++◌, ℕ, zero, suc, ◌*◌, eqb, drop, length, take}
-use Rattle.refusals.specs.Judge.{first, length_refusal, unless, word_refusal}
+use Rattle.std.specs.Prelude.{cond, ◌||◌, List, [], ◌∷◌, ◌++◌, ℕ, zero, suc, ◌*◌, eqb, drop, length, take, Err}
+use Rattle.refusals.specs.declared.refusal.Refusal.TheVariants.{WrongShape}
+use Rattle.refusals.specs.Judge.{Judgement, first, length_refusal, none, unless, word_refusal}
 use Rattle.sponge.specs.Digest.{digest_of}
 
 -- lists 0, 1, .., n of them, one after another
@@ -30,16 +31,16 @@ digest_count (suc n) rows = rows
 unfoldable pub row_digests : (words : List ℕ) (columns rows width : ℕ) → List ℕ
 row_digests words columns rows width = joined (digest_count columns rows) (λ r. digest_of (row words columns rows width r))
 
--- refusal 7 for a width that is not 1 or 3
-abbrev pub width_refusal : (width : ℕ) → ℕ
-width_refusal width = cond (eqb width 1 || eqb width 3) 0 7
+-- refused for a width that is not 1 or 3
+abbrev pub width_refusal : (width : ℕ) → Judgement
+width_refusal width = cond (eqb width 1 || eqb width 3) none (Err WrongShape)
 
--- refusal 7 for words that are not as many as the columns have: a product of whole numbers
-abbrev pub size_refusal : (words : List ℕ) (columns rows width : ℕ) → ℕ
-size_refusal words columns rows width = cond (eqb (length words) (columns * rows * width)) 0 7
+-- refused for words that are not as many as the columns have: a product of whole numbers
+abbrev pub size_refusal : (words : List ℕ) (columns rows width : ℕ) → Judgement
+size_refusal words columns rows width = cond (eqb (length words) (columns * rows * width)) none (Err WrongShape)
 
--- the first refusal: then come 2 for room that is not five words a digest, and 1 for a word of P or more
-abbrev pub rows_refusal : (words : List ℕ) (columns rows width : ℕ) (room : List ℕ) → ℕ
+-- the first refusal: after the shape's come the one for room that is not five words a digest, and the one for a word of P or more
+abbrev pub rows_refusal : (words : List ℕ) (columns rows width : ℕ) (room : List ℕ) → Judgement
 rows_refusal words columns rows width room =
     first (width_refusal width ∷ size_refusal words columns rows width ∷ length_refusal (5 * digest_count columns rows) room ∷ word_refusal words ∷ [])
 

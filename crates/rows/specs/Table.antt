@@ -1,26 +1,21 @@
--- What the private functions of row hashing are lent: words that were judged, in columns of a shape.
-use Rattle.std.specs.Prelude.{List, ◌≡◌, ℕ, ◌*◌, ◌<◌, get_or, length}
-use Rattle.numbers.specs.Modulus.{P}
+-- What the methods of a table that was judged speak of: its columns, their entries, its rows and their digests.
+use Rattle.std.specs.Prelude.{List, ℕ}
 use Rattle.sponge.specs.Digest.{digest_of}
-use Rattle.rows.specs.declared.row.Shape.{Shape}
+use Rattle.rows.specs.declared.table.Table.{Table}
 use Rattle.rows.specs.Rows.{column_of, entry_of, joined, row}
 
--- words that were not refused for their shape or a bad word
-pub record Table (words : List ℕ) (shape : Shape) : Type 0 where
-  pub wide : 0 < shape.width
-  pub size : length words ≡ shape.columns * shape.rows * shape.width
-  pub below : (k : ℕ) → get_or words k 0 < P
+-- column c
+abbrev pub column_in : Table → (c : ℕ) → List ℕ
+column_in table c = column_of table.words.now table.rows table.width c
 
--- column c, its entry r, row r, and the digests of the first n rows, of words of a shape
+-- its entry r
+abbrev pub entry_in : Table → (c r : ℕ) → List ℕ
+entry_in table c r = entry_of (column_in table c) table.width r
 
-abbrev pub column_in : List ℕ → Shape → (c : ℕ) → List ℕ
-column_in words shape c = column_of words shape.rows shape.width c
+-- row r
+abbrev pub row_in : Table → (r : ℕ) → List ℕ
+row_in table r = row table.words.now table.columns table.rows table.width r
 
-abbrev pub entry_in : List ℕ → Shape → (c r : ℕ) → List ℕ
-entry_in words shape c r = entry_of (column_in words shape c) shape.width r
-
-abbrev pub row_in : List ℕ → Shape → (r : ℕ) → List ℕ
-row_in words shape r = row words shape.columns shape.rows shape.width r
-
-abbrev pub digests_in : List ℕ → Shape → (n : ℕ) → List ℕ
-digests_in words shape n = joined n (λ r. digest_of (row_in words shape r))
+-- the digests of the first n rows
+abbrev pub digests_in : Table → (n : ℕ) → List ℕ
+digests_in table n = joined n (λ r. digest_of (row_in table r))

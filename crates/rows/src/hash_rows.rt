@@ -1,63 +1,55 @@
 // The digest of each row of a table whose columns lie one after another.
-ghost use Rattle.std.specs.Prelude.{◌≡◌, ◌+◌, ◌*◌, ◌≤◌, length};
-ghost use Rattle.std.proofs.Math.Seq.{paste};
-ghost use Rattle.rows.specs.Rows.{hashed_rows, rows_refusal};
-ghost use Rattle.rows.specs.Table.{Table, digests_in};
+ghost use Rattle.std.specs.Prelude.{◌≡◌, ◌*◌, length};
+ghost use Rattle.rows.specs.Rows.{digest_count, hashed_rows, rows_refusal};
+ghost use Rattle.rows.specs.Table.{digests_in};
 
-use crate::judge::{digest_count, judge_rows};
-use crate::row::{Shape, row_sponge};
-use sponge::{DIGEST_LENGTH, Tip5};
+use crate::judge::{digest_count, judge_room, judge_size, judge_width};
+use crate::table::Table;
+use refusals::Refusal;
+use refusals::judge::judge_words;
+use sponge::DIGEST_LENGTH;
 
-// The digest of a row, words 0 to 4 of its sponge, goes to its place.
-fn put_digest(digests: &mut [u64], row: usize, sponge: Tip5)
-    requires { row * 5 + 5 ≤ length digests.old }
-    ensures { digests.new ≡ paste digests.old (row * 5) sponge.state 5 }
-{
-    let state = sponge.state;
-    let at = row * DIGEST_LENGTH;
-    let mut i = 0;
-    while i < DIGEST_LENGTH {
-        digests[at + i] = state[i];
-        i += 1;
+impl<'a> Table<'a> {
+    // The digests of the rows in turn: the digest of a row, words 0 to 4 of its sponge, goes to its place.
+    #[tactic(auto, using(crate::proofs::DigestLaws::digests_none, crate::proofs::DigestLaws::digests_more, crate::proofs::DigestLaws::count_le, std::proofs::lemmas::Grind::common_steps), unfolding(sponge::specs::Digest::digest, sponge::specs::Digest::digest_of))]
+    fn put_digests(&self, digests: &mut [u64])
+        requires { length digests.old ≡ 5 * digest_count self.now.columns self.now.rows }
+        ensures { digests.new ≡ digests_in self.now (digest_count self.now.columns self.now.rows) }
+    {
+        // By a range: of `chunks_mut` the library says how long the slice ends, and not what it ends as.
+        for row in 0..digest_count(self.columns, self.rows) {
+            let sponge = self.row_sponge(row);
+            let at = row * DIGEST_LENGTH;
+            digests[at..at + DIGEST_LENGTH].copy_from_slice(&sponge.state[..DIGEST_LENGTH]);
+        }
     }
 }
 
-// The digests of the rows in turn.
-fn put_digests(words: &[u64], shape: Shape, count: usize, digests: &mut [u64])
-    requires table { Table words.now shape }
-    requires room { (count ≤ shape.rows) × (length digests.old ≡ 5 * count) }
-    ensures { digests.new ≡ digests_in words.now shape count }
-{
-    let mut row = 0;
-    while row < count {
-        let sponge = row_sponge(words, shape, row);
-        put_digest(digests, row, sponge);
-        row += 1;
-    }
-}
-
-// Row r hashes, for column 0, 1, .., its parts in order, as one list of any length. Its digest goes to
-// words 5r to 5r + 4. A refusal writes no digest at all.
+/// Row r hashes, for column 0, 1, .., its parts in order, as one list of any length. Its digest goes to words 5r to 5r + 4 of
+/// `digests`. `words` has the columns one after another, each of `rows` entries of `width` words. Any numbers may stand here:
+/// `WrongShape` for a width that is not 1 or 3 or words that are not as many as the columns have, `WrongLength` where `digests`
+/// is not five words a row (none at zero columns), `BadWord` for a word of P or more. A refusal writes no digest at all.
+#[tactic(auto, unfolding(crate::specs::Rows::row_digests))]
 pub fn hash_rows_of_columns(
     words: &[u64],
     columns: usize,
     rows: usize,
     width: usize,
     digests: &mut [u64],
-) -> u8
+) -> Result<(), Refusal>
     ensures value { result ≡ rows_refusal words.now columns rows width digests.old }
     ensures digests_after { digests.new ≡ hashed_rows words.now columns rows width digests.old }
 {
-    let shape = Shape {
+    judge_width(width)?;
+    judge_size(words, columns, rows, width)?;
+    judge_room(columns, rows, digests)?;
+    judge_words(words)?;
+    let table = Table {
+        words,
         columns,
         rows,
         width,
     };
-    let refusal = judge_rows(words, shape, digests);
-    if refusal != refusals::NONE {
-        return refusal;
-    }
-    let count = digest_count(shape);
-    put_digests(words, shape, count, digests);
-    refusal
+    table.put_digests(digests);
+    Ok(())
 }

@@ -4,3 +4,4 @@
 pub mod hash_rows;
 mod judge;
 mod row;
+mod table;

@@ -1,94 +1,67 @@
 // One row of a table, fed to a sponge ten words at a time: no buffer holds a whole row.
-ghost use Rattle.std.specs.Prelude.{◌≡◌, ◌+◌, ◌*◌, ◌≤◌, ◌<◌, drop, get_or, length, replicate};
-ghost use Rattle.std.proofs.Math.Seq.{paste};
-ghost use Rattle.rounds.specs.Field.{Below};
+ghost use Rattle.std.specs.Prelude.{◌≡◌, ◌+◌, ◌*◌, ◌≤◌, ◌<◌, drop, get_or, length, take};
 ghost use Rattle.sponge.specs.declared.Domain.TheVariants.{VariableLength};
 ghost use Rattle.sponge.specs.History.{padded_steps, run};
-ghost use Rattle.sponge.specs.Padding.{last_ten};
 ghost use Rattle.sponge.specs.Sponge as Sponge;
-ghost use Rattle.rows.specs.Table.{Table, entry_in, row_in};
+ghost use Rattle.rows.specs.Table.{column_in, entry_in, row_in};
 
-use columns::column_entry;
-use sponge::by_value::absorb;
+use crate::table::Table;
+use columns::Column;
 use sponge::{RATE, Tip5};
-use tip5::b_field_element::BFieldElement;
 
-// How the words of a table lie: columns one after another, each of `rows` entries of `width` words.
-#[derive(Clone, Copy)]
-pub(crate) struct Shape {
-    pub(crate) columns: usize,
-    pub(crate) rows: usize,
-    pub(crate) width: usize,
-}
-
-// A part of a column's entry, by a view of that column.
-fn entry_word(words: &[u64], shape: Shape, column: usize, row: usize, part: usize) -> u64
-    requires table { Table words.now shape }
-    requires in_table { (column < shape.columns) × (row < shape.rows) × (part < shape.width) }
-    ensures { result ≡ get_or (entry_in words.now shape column row) part 0 }
-{
-    let size = shape.rows * shape.width;
-    let start = column * size;
-    let end = start + size;
-    let answer = column_entry(&words[start..end], shape.width, part, row);
-    answer.word
-}
-
-// n words of a row from word `at` on, then zeros. Word k is part k % width of column k / width.
-fn row_part(words: &[u64], shape: Shape, row: usize, at: usize, n: usize) -> [u64; 10]
-    requires table { Table words.now shape }
-    requires in_table { (row < shape.rows) × (n ≤ 10) × (at + n ≤ shape.columns * shape.width) }
-    ensures { result ≡ paste (replicate 10 0) 0 (drop at (row_in words.now shape row)) n }
-{
-    let mut ten = [0; 10];
-    let mut i = 0;
-    while i < n {
-        let k = at + i;
-        let column = k / shape.width;
-        let part = k % shape.width;
-        ten[i] = entry_word(words, shape, column, row, part);
-        i += 1;
+impl<'a> Table<'a> {
+    // A column, entry after entry.
+    #[tactic(auto, unfolding(crate::specs::Rows::column_of))]
+    fn column(&self, column: usize) -> &[u64]
+        requires { column < self.now.columns }
+        ensures { result.now ≡ column_in self.now column }
+    {
+        let size = self.rows * self.width;
+        &self.words[column * size..][..size]
     }
-    ten
-}
 
-// The rest of a row, at most nine words, followed by ONE and zeros.
-fn last_ten(words: &[u64], shape: Shape, row: usize, at: usize) -> [u64; 10]
-    requires table { Table words.now shape }
-    requires in_table { (row < shape.rows) × (at ≤ shape.columns * shape.width) × (shape.columns * shape.width < at + 10) }
-    ensures { result ≡ last_ten (drop at (row_in words.now shape row)) }
-{
-    let rest = shape.columns * shape.width - at;
-    let mut ten = row_part(words, shape, row, at, rest);
-    let one = BFieldElement::ONE;
-    ten[rest] = one.0;
-    ten
-}
-
-// An absorb that is not refused.
-fn absorbed(sponge: Tip5, ten: [u64; 10]) -> Tip5
-    requires { Below sponge.state × Below ten }
-    ensures { result ≡ Sponge.absorbed ten sponge }
-{
-    let answer = absorb(sponge, &ten);
-    answer.sponge
-}
-
-// The sponge that absorbed a padded row.
-pub(crate) fn row_sponge(words: &[u64], shape: Shape, row: usize) -> Tip5
-    requires table { Table words.now shape }
-    requires in_table { row < shape.rows }
-    ensures { result ≡ run (padded_steps (row_in words.now shape row)) (Sponge.start VariableLength) }
-{
-    let length = shape.columns * shape.width;
-    let mut sponge = Tip5::init();
-    let mut at = 0;
-    while RATE <= length - at {
-        let ten = row_part(words, shape, row, at, RATE);
-        let next = absorbed(sponge, ten);
-        sponge = next;
-        at += RATE;
+    // A part of a column's entry, by a view of that column, which has it.
+    #[tactic(auto, using(crate::proofs::TableLaws::view_part))]
+    fn entry_word(&self, column: usize, row: usize, part: usize) -> u64
+        requires { (column < self.now.columns) × (row < self.now.rows) × (part < self.now.width) }
+        ensures { result ≡ get_or (entry_in self.now column row) part 0 }
+    {
+        let view = Column {
+            elements: self.column(column),
+            stride: self.width,
+            offset: part,
+        };
+        view.get(row).unwrap()
     }
-    let last = last_ten(words, shape, row, at);
-    absorbed(sponge, last)
+
+    // The words of a row from word `at` on, as many as there is room for. Word k is part k % width of column k / width.
+    #[tactic(auto, using(crate::proofs::TableLaws::row_more, crate::proofs::TableLaws::row_fits, std::proofs::lemmas::Grind::common_steps))]
+    fn put_words(&self, row: usize, at: usize, room: &mut [u64])
+        requires { (row < self.now.rows) × (at + length room.old ≤ self.now.columns * self.now.width) }
+        ensures { room.new ≡ take (length room.old) (drop at (row_in self.now row)) }
+    {
+        for (i, word) in room.iter_mut().enumerate() {
+            let k = at + i;
+            *word = self.entry_word(k / self.width, row, k % self.width);
+        }
+    }
+
+    // The sponge that absorbed a padded row. Its words and the table's are below P, so no call is refused.
+    #[tactic(auto, using(crate::proofs::RowLaws::ten_granted, crate::proofs::RowLaws::ten_more, crate::proofs::TableLaws::row_fits))]
+    pub(crate) fn row_sponge(&self, row: usize) -> Tip5
+        requires { row < self.now.rows }
+        ensures { result ≡ run (padded_steps (row_in self.now row)) (Sponge.start VariableLength) }
+    {
+        let length = self.columns * self.width;
+        let mut sponge = Tip5::init();
+        let mut ten = [0; RATE];
+        for n in 0..length / RATE {
+            self.put_words(row, n * RATE, &mut ten);
+            sponge.absorb(&ten).unwrap();
+        }
+        let rest = &mut ten[..length % RATE];
+        self.put_words(row, length - rest.len(), rest);
+        sponge.pad_and_absorb_all(rest).unwrap();
+        sponge
+    }
 }

@@ -1,15 +1,16 @@
 -- The laws of numbers made of bytes and of their bit fields.
 -- Assumes nothing.
-use mathlib.Core.Path.{◌≡◌, sym, ap, ◌∙◌}
-use mathlib.Core.List.{List, [], ◌∷◌, ◌++◌}
-use Prim.Native.Nat.{ℕ, ◌+◌, ◌*◌, ◌^◌, ◌≤◌, ◌<◌}
-use native.Mathlib.Nat.{add_assoc, add-mul, add-zero, lt_of_lt_of_le, mod-lt, mul_assoc, mul-one, pow-le-pow_right, pow-suc, zero-mul, zero-add}
-use native.Mathlib.Numerals.{add-one}
-use lib.Arith.{digits_lt}
-use lib.Dec.{lit<}
-use lib.ListN.{length, take, get_or, length-append}
+use mathlib.Core.Path.{◌≡◌, ap₂, refl, sym, ap, ◌∙◌}
+use mathlib.Core.List.{List, [], ◌∷◌, ◌++◌, append-nil}
+use Prim.Native.Nat.{ℕ, zero, suc, ◌-◌, ◌+◌, ◌*◌, ◌^◌, ◌≤◌, ◌<◌}
+use native.Mathlib.Nat.{add_assoc, add-mul, mod-lt, mul_assoc, zero-mul, zero-add}
+use native.Mathlib.Omega.{arith}
+use Rattle.numbers.proofs.Lists.{tab-get_or}
+use lib.ListN.{length, take, drop, drop_of_length-le, replicate, length-append, length-drop}
 use lib.Pow.{pow-add, pow_pos}
-use lib.Seq.{take-suc}
+use lib.Seq.{length-take-le}
+use Rattle.std.specs.Int.{from_be_bytes, w64}
+use borrow.Rule.Slice.PartMut.{put_mid}
 use Rattle.sheet.specs.Bits.{number, field}
 
 -- Numbers
@@ -22,24 +23,36 @@ number-append (x ∷ xs) ys =
     rw (number-append xs ys, length-append xs ys, pow-add 256 (length xs) (length ys), add-mul (x * 256 ^ length xs) (number xs) (256 ^ length ys))
     (rw (mul_assoc x (256 ^ length xs) (256 ^ length ys), add_assoc (x * (256 ^ length xs * 256 ^ length ys)) (number xs * 256 ^ length ys) (number ys)))
 
--- the number of a single byte
-pub number-one : (b : ℕ) → number (b ∷ []) ≡ b
+-- eight bytes are what `from_be_bytes` makes of them
+pub number_word : (bytes : List ℕ) → length bytes ≡ 8 → from_be_bytes w64 bytes ≡ number bytes
 unfolding number
-number-one b = rw (mul-one b, add-zero b)
+number_word bytes h = omega (arith, ap number (tab-get_or bytes h))
 
--- one byte more
-pub number-more : (bytes : List ℕ) (i : ℕ) → i < length bytes → number (take (i + 1) bytes) ≡ number (take i bytes) * 256 + get_or bytes i 0
-number-more bytes i h =
-    rw (add-one i, take-suc bytes i 0 h)
-    (number-append (take i bytes) (get_or bytes i 0 ∷ []) ∙ ap (λ (n : ℕ). number (take i bytes) * 256 + n) (number-one (get_or bytes i 0)))
+-- zeros are nothing
+number-zeros : (n k : ℕ) → number (take n (replicate k 0)) ≡ 0
+unfolding number
+number-zeros zero k = refl
+number-zeros (suc n) zero = refl
+number-zeros (suc n) (suc k) = omega (arith, number-zeros n k)
 
--- one byte more keeps a number within its bytes
-pub bytes-more : {n b : ℕ} (i : ℕ) → n < 256 ^ i → b < 256 → n * 256 + b < 256 ^ (i + 1)
-bytes-more {n} {b} i h l = rw (add-one i, pow-suc 256 i) (digits_lt h l)
+-- so are those in front of fewer bytes
+pub number-padded : {m : ℕ} {copied : List ℕ} (bytes : List ℕ) → length bytes ≤ 8 → m ≡ length bytes → copied ≡ bytes
+    → from_be_bytes w64 (put_mid (8 - length bytes) m (replicate 8 0) copied) ≡ number bytes
+number-padded {m} {copied} bytes h e same =
+    ap (λ (l : List ℕ). from_be_bytes w64 (zeros ++ l)) (ap₂ (λ (l r : List ℕ). l ++ r) same none ∙ append-nil bytes)
+    ∙ number_word (zeros ++ bytes) (omega (arith, length-append zeros bytes, length-take-le (8 - length bytes) eight (omega arith)))
+    ∙ number-append zeros bytes
+    ∙ ap (λ (n : ℕ). n * 256 ^ length bytes + number bytes) (number-zeros (8 - length bytes) 8)
+    ∙ omega arith
+  where
+    eight : List ℕ
+    eight = replicate 8 0
 
--- eight bytes fit a word
-pub bytes-fit : {n i : ℕ} → n < 256 ^ i → i ≤ 8 → n < 2 ^ 64
-bytes-fit h l = lt_of_lt_of_le h (pow-le-pow_right (lit< tt) l)
+    zeros : List ℕ
+    zeros = take (8 - length bytes) eight
+
+    none : drop m (drop (8 - length bytes) eight) ≡ []
+    none = drop_of_length-le (drop (8 - length bytes) eight) (omega (arith, length-drop (8 - length bytes) eight))
 
 -- Fields
 

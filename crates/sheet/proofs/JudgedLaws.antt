@@ -1,52 +1,93 @@
--- What is known of a sheet once it is judged: its refusal, its header, its words.
+-- What a caller knows of a sheet that is accepted: its header and its words.
 -- Assumes nothing.
-use mathlib.Core.List.{List, ◌++◌}
-use mathlib.Core.Path.{◌≡◌, ap, subst, sym, ◌∙◌}
+use mathlib.Core.Bool.{cond}
+use mathlib.Core.List.{List, [], ◌∷◌, ◌++◌}
+use mathlib.Core.Path.{◌≡◌, refl, ap, subst, sym, ◌∙◌}
 use Prim.Native.Nat.{ℕ, ◌+◌, ◌*◌, ◌≤◌, ◌<◌}
-use native.Mathlib.Nat.{le_of_suc-le-suc, le_trans}
-use lib.Dec.{lit≤}
+use native.Mathlib.Nat.{le_of_suc-le-suc}
+use borrow.Author.Tests.{eqb-true, leb-true, ltb-true}
+use lib.Dec.{eqb, leb, ltb}
 use lib.ListN.{drop, length, take}
-use Rattle.refusals.proofs.UnlessLaws.{unless-granted, unless-refused}
+use lib.Seq.{take_at}
+use Rattle.std.specs.Prelude.{Ok, Err, IfOk, Result, T, is_ok}
+use Rattle.numbers.proofs.Lists.{length-tab}
+use Rattle.rounds.specs.Field.{raw_of}
+use Rattle.rounds.proofs.FieldLaws.{raw_of-below}
+use Rattle.rounds.proofs.RoundLaws.{tab-below}
+use Rattle.refusals.specs.declared.refusal.Refusal.{Refusal}
+use Rattle.refusals.specs.Judge.{Judgement, granted, none, unless, word_refusal}
+use Rattle.refusals.specs.declared.refusal.Refusal.TheVariants.{BadHeader, WrongSheetLength}
+use Rattle.refusals.proofs.JudgeLaws.{below_accepted, passed}
+use Rattle.refusals.proofs.RefusalLaws.{none-first}
 use Rattle.sheet.specs.declared.header.Header.{Header}
-use Rattle.sheet.specs.declared.header.HeaderAnswer.{HeaderAnswer}
-use Rattle.sheet.specs.Header.{no_header}
-use Rattle.sheet.specs.Sheet.{elements_in_front, header_of, judge_sheet, read_words, sheet_refusal, words_of}
-use Rattle.sheet.proofs.Accepted.{accepted}
+use Rattle.sheet.specs.Sheet.{element_limit, elements_in_front, field_refusal, header_of, judge_sheet, read_words, sheet_length_refusal, sheet_refusal, short_refusal, value, value_refusal, words_of}
 use Rattle.sheet.proofs.BitLaws.{field-below}
 
--- the refusal and the header of a judged sheet
+-- what each refusal that did not come says
+pub record Accepted (sheet : List ℕ) : Type 0 where
+  pub version : (header_of sheet).version ≡ 1
+  pub job : (header_of sheet).job < 2
+  pub limit : (header_of sheet).elements ≤ element_limit
+  pub exact : length sheet ≡ 6 + 8 * (header_of sheet).elements
+  pub values : value_refusal (header_of sheet).elements sheet ≡ none
 
-pub judged-refusal : (sheet : List ℕ) {a : HeaderAnswer} → a ≡ judge_sheet sheet → a.refusal ≡ sheet_refusal sheet
-judged-refusal sheet e = ap (λ (x : HeaderAnswer). x.refusal) e
+-- a sheet that is not refused
+pub accepted : (sheet : List ℕ) → sheet_refusal sheet ≡ none → Accepted sheet
+accepted sheet e =
+    let h = header_of sheet in
+    let long = sheet_length_refusal h.elements sheet in
+    let last = value_refusal h.elements sheet in
+    let fields = none-first (field_refusal h) (long ∷ last ∷ []) (none-first (short_refusal sheet) (field_refusal h ∷ long ∷ last ∷ []) e).1 in
+    let rest = none-first long (last ∷ []) fields.1 in
+    let job = cond (ltb h.job 2) none (Err BadHeader) in
+    let limit = cond (leb h.elements element_limit) none (Err BadHeader) in
+    let version = none-first (cond (eqb h.version 1) none (Err BadHeader)) (job ∷ limit ∷ []) fields.0 in
+    let others = none-first job (limit ∷ []) version.1 in
+    record {
+      version = eqb-true _ _ (passed (eqb h.version 1) BadHeader version.0);
+      job = ltb-true _ _ (passed (ltb h.job 2) BadHeader others.0);
+      limit = leb-true _ _ (passed (leb h.elements element_limit) BadHeader (none-first limit [] others.1).0);
+      exact = eqb-true _ _ (passed (eqb (length sheet) (6 + 8 * h.elements)) WrongSheetLength rest.0);
+      values = (none-first last [] rest.1).0;
+    }
 
-pub judged-header : (sheet : List ℕ) {a : HeaderAnswer} → a ≡ judge_sheet sheet → a.refusal ≡ 0 → a.header ≡ header_of sheet
-judged-header sheet e good =
-    ap (λ (x : HeaderAnswer). x.header) e ∙ unless-granted (header_of sheet) no_header (sym (judged-refusal sheet e) ∙ good)
+-- an answer is granted where nothing is refused, and it is that answer
+granted-ok : {A : Type 0} (j : Judgement) (a : A) {b : A} → Ok b ≡ granted j a → (j ≡ none) × (b ≡ a)
+granted-ok {A} (Ok done) a {b} e = (refl, subst (λ (r : Result A Refusal). IfOk r (λ v. b ≡ v)) e refl)
+granted-ok {A} (Err refusal) a e = absurd (subst (λ (r : Result A Refusal). T (is_ok r)) e tt)
 
--- what the calls that follow a judging ask
+-- an accepted sheet and its header
 
-pub judged-length : (sheet : List ℕ) {a : HeaderAnswer} → a ≡ judge_sheet sheet → a.refusal ≡ 0 → (length sheet ≡ 6 + 8 * a.header.elements) × (a.header.elements ≤ 8191)
-judged-length sheet e good =
-    let h = judged-header sheet e good in
-    let known = accepted sheet (sym (judged-refusal sheet e) ∙ good) in
-    let limit : (header_of sheet).elements ≤ 8191 = le_trans known.limit (lit≤ tt) in
-    (known.exact ∙ ap (λ (x : Header). 6 + 8 * x.elements) (sym h), subst (λ (x : Header). x.elements ≤ 8191) (sym h) limit)
+module _ (sheet : List ℕ) {header : Header} (judged : Ok header ≡ judge_sheet sheet) where
+  pub judged_good : sheet_refusal sheet ≡ none
+  judged_good = (granted-ok (sheet_refusal sheet) (header_of sheet) judged).0
 
-pub judged-fields : (sheet : List ℕ) {a : HeaderAnswer} → a ≡ judge_sheet sheet → a.refusal ≡ 0 → (a.header.log2 < 32) × (a.header.indices ≤ 4095)
-judged-fields sheet e good =
-    let h = judged-header sheet e good in
-    (subst (λ (x : Header). x.log2 < 32) (sym h) (field-below (take 6 sheet) 6 5), subst (λ (x : Header). x.indices ≤ 4095) (sym h) (le_of_suc-le-suc (field-below (take 6 sheet) 24 12)))
+  pub judged_header : header ≡ header_of sheet
+  judged_header = (granted-ok (sheet_refusal sheet) (header_of sheet) judged).1
 
--- the words that are handed out
+  -- its fields are within their bits
+  pub judged_fields : (header.log2 < 32) × (header.indices ≤ 4095)
+  judged_fields = rw judged_header (field-below (take 6 sheet) 6 5, le_of_suc-le-suc (field-below (take 6 sheet) 24 12))
 
-pub words-kept : (sheet words : List ℕ) {a : HeaderAnswer} → a ≡ judge_sheet sheet → (a.refusal ≡ 0 → ⊥) → words ≡ read_words sheet words
-unfolding read_words
-words-kept sheet words e bad =
-    sym (unless-refused (sheet_refusal sheet) (elements_in_front sheet words) words (λ z. bad (judged-refusal sheet e ∙ z)))
+  -- the words that are handed out
 
-pub words-read : (sheet words : List ℕ) {a : HeaderAnswer} → a ≡ judge_sheet sheet → a.refusal ≡ 0
-    → words_of a.header.elements sheet ++ drop a.header.elements words ≡ read_words sheet words
-unfolding read_words
-words-read sheet words e good =
-    ap (λ (x : Header). words_of x.elements sheet ++ drop x.elements words) (judged-header sheet e good)
-    ∙ sym (unless-granted (elements_in_front sheet words) words (sym (judged-refusal sheet e) ∙ good))
+  pub words_read : (before : List ℕ) → read_words sheet before ≡ words_of header.elements sheet ++ drop header.elements before
+  unfolding read_words
+  words_read before =
+      ap (λ (j : Judgement). unless j (elements_in_front sheet before) before) judged_good
+      ∙ ap (λ (h : Header). words_of h.elements sheet ++ drop h.elements before) (sym judged_header)
+
+  -- stand in front
+  pub words_in_front : (before : List ℕ) {now : List ℕ} → now ≡ read_words sheet before → take header.elements now ≡ words_of header.elements sheet
+  unfolding words_of
+  words_in_front before e =
+      ap (take header.elements) (e ∙ words_read before)
+      ∙ take_at (words_of header.elements sheet) (drop header.elements before) header.elements
+      (length-tab header.elements 0 (λ i. raw_of (value sheet i)))
+
+  -- and are accepted, as raw words of values are below P
+  pub words_accepted : (before : List ℕ) {now : List ℕ} → now ≡ read_words sheet before → word_refusal (take header.elements now) ≡ none
+  unfolding words_of
+  words_accepted before e =
+      ap word_refusal (words_in_front before e)
+      ∙ below_accepted (words_of header.elements sheet) (tab-below header.elements 0 λ i. raw_of-below (value sheet i))

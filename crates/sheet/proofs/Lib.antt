@@ -1,5 +1,4 @@
 -- The laws of this crate's definitions.
-pub mod Accepted
 pub mod BitLaws
-pub mod JudgeLaws
+pub mod ElementLaws
 pub mod JudgedLaws

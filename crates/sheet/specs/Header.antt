@@ -13,7 +13,3 @@ header six = record {
   indices = field six 24 12;
   allowance = field six 36 12;
 }
-
--- what stands in the room of a header where a sheet is refused
-abbrev pub no_header : Header
-no_header = record { version = 0; job = 0; log2 = 0; elements = 0; indices = 0; allowance = 0 }

@@ -1,12 +1,13 @@
 -- A sheet's header and elements, and which sheets are accepted.
-use Rattle.std.specs.Prelude.{cond, List, [], ◌∷◌, ◌++◌, ℕ, ◌+◌, ◌*◌, eqb, leb, ltb, length, take, drop}
+use Rattle.std.specs.Prelude.{cond, List, [], ◌∷◌, ◌++◌, ℕ, ◌+◌, ◌*◌, eqb, leb, ltb, length, take, drop, Result, Err}
 use Rattle.numbers.specs.Lists.{tab}
 use Rattle.rounds.specs.Field.{raw_of}
-use Rattle.refusals.specs.Judge.{first, unless, word_refusal}
+use Rattle.refusals.specs.declared.refusal.Refusal.{Refusal}
+use Rattle.refusals.specs.declared.refusal.Refusal.TheVariants.{BadHeader, WrongSheetLength}
+use Rattle.refusals.specs.Judge.{Judgement, first, granted, none, unless, word_refusal}
 use Rattle.sheet.specs.declared.header.Header.{Header}
-use Rattle.sheet.specs.declared.header.HeaderAnswer.{HeaderAnswer}
 use Rattle.sheet.specs.Bits.{number}
-use Rattle.sheet.specs.Header.{header, no_header}
+use Rattle.sheet.specs.Header.{header}
 
 -- the most elements that a sheet may have
 abbrev pub element_limit : ℕ
@@ -28,33 +29,33 @@ values_of n sheet = tab n 0 (λ i. value sheet i)
 unfoldable pub words_of : (n : ℕ) (sheet : List ℕ) → List ℕ
 words_of n sheet = tab n 0 (λ i. raw_of (value sheet i))
 
--- refusal 4 for a sheet that has no header
-abbrev pub short_refusal : (sheet : List ℕ) → ℕ
-short_refusal sheet = cond (ltb (length sheet) 6) 4 0
+-- refused for a sheet that has no header
+abbrev pub short_refusal : (sheet : List ℕ) → Judgement
+short_refusal sheet = cond (ltb (length sheet) 6) (Err WrongSheetLength) none
 
--- refusal 5 for a header that no sheet has, clause by clause; the log2, index and allowance fields, which a digest sheet
+-- refused for a header that no sheet has, clause by clause; the log2, index and allowance fields, which a digest sheet
 -- does not use, are not judged
-abbrev pub field_refusals : Header → List ℕ
+abbrev pub field_refusals : Header → List Judgement
 field_refusals h =
-    cond (eqb h.version 1) 0 5
-    ∷ cond (ltb h.job 2) 0 5
-    ∷ cond (leb h.elements element_limit) 0 5
+    cond (eqb h.version 1) none (Err BadHeader)
+    ∷ cond (ltb h.job 2) none (Err BadHeader)
+    ∷ cond (leb h.elements element_limit) none (Err BadHeader)
     ∷ []
 
 -- the first of them
-abbrev pub field_refusal : Header → ℕ
+abbrev pub field_refusal : Header → Judgement
 field_refusal h = first (field_refusals h)
 
--- refusal 4 for a sheet that is not as long as its number of elements says
-abbrev pub sheet_length_refusal : (elements : ℕ) (sheet : List ℕ) → ℕ
-sheet_length_refusal n sheet = cond (eqb (length sheet) (6 + 8 * n)) 0 4
+-- refused for a sheet that is not as long as its number of elements says
+abbrev pub sheet_length_refusal : (elements : ℕ) (sheet : List ℕ) → Judgement
+sheet_length_refusal n sheet = cond (eqb (length sheet) (6 + 8 * n)) none (Err WrongSheetLength)
 
--- refusal 1 for a value that is P or more
-abbrev pub value_refusal : (elements : ℕ) (sheet : List ℕ) → ℕ
+-- refused for a value that is P or more
+abbrev pub value_refusal : (elements : ℕ) (sheet : List ℕ) → Judgement
 value_refusal n sheet = word_refusal (values_of n sheet)
 
--- the refusals of a sheet with the header h, in their order
-abbrev pub refusals : (h : Header) (sheet : List ℕ) → List ℕ
+-- the judgements of a sheet with the header h, in their order
+abbrev pub refusals : (h : Header) (sheet : List ℕ) → List Judgement
 refusals h sheet =
     short_refusal sheet
     ∷ field_refusal h
@@ -62,25 +63,17 @@ refusals h sheet =
     ∷ value_refusal h.elements sheet
     ∷ []
 
--- the refusal of a sheet, 0 for none
-abbrev pub sheet_refusal : (sheet : List ℕ) → ℕ
+-- the refusal of a sheet, or none
+abbrev pub sheet_refusal : (sheet : List ℕ) → Judgement
 sheet_refusal sheet = first (refusals (header_of sheet) sheet)
 
--- what is answered for a refused sheet
-abbrev pub refused_sheet : (refusal : ℕ) → HeaderAnswer
-refused_sheet n = record { refusal = n; header = no_header }
-
--- a sheet's header, once it is known whether it is refused
-abbrev pub header_unless : (refusal : ℕ) (sheet : List ℕ) → HeaderAnswer
-header_unless n sheet = record { refusal = n; header = unless n (header_of sheet) no_header }
-
 -- the header of any sheet that has one
-abbrev pub read_header : (sheet : List ℕ) → HeaderAnswer
-read_header sheet = header_unless (short_refusal sheet) sheet
+abbrev pub read_header : (sheet : List ℕ) → Result Header Refusal
+read_header sheet = granted (short_refusal sheet) (header_of sheet)
 
 -- the header of an accepted sheet
-abbrev pub judge_sheet : (sheet : List ℕ) → HeaderAnswer
-judge_sheet sheet = header_unless (sheet_refusal sheet) sheet
+abbrev pub judge_sheet : (sheet : List ℕ) → Result Header Refusal
+judge_sheet sheet = granted (sheet_refusal sheet) (header_of sheet)
 
 -- the raw words of all elements in front of a list, and what stood after them as it was
 abbrev pub elements_in_front : (sheet words : List ℕ) → List ℕ

@@ -2,32 +2,14 @@
 ghost use Rattle.std.specs.Prelude.{◌≡◌, ◌+◌, ◌*◌, ◌<◌, ◌≤◌, length};
 ghost use Rattle.sheet.specs.Bits as Bits;
 
-// A byte as a word.
-fn wide(byte: u8) -> u64
-    ensures { (result ≡ byte) × (result < 256) }
-{
-    byte as u64
-}
-
-// At most eight bytes as one number, the first of them the most significant.
-pub(crate) fn number(bytes: &[u8]) -> u64
-    requires { length bytes.now ≤ 8 }
-    ensures { result ≡ Bits.number bytes.now }
-{
-    let mut found: u64 = 0;
-    let mut i = 0;
-    while i < bytes.len() {
-        found = found * 256 + wide(bytes[i]);
-        i += 1;
-    }
-    found
-}
-
-// A bit field of at most eight bytes: bits offset, offset + 1, .., as many as the width says.
+// A bit field of at most eight bytes: bits offset, offset + 1, .., as many as the width says. Where
+// there are fewer than eight, zeros stand before them.
 pub(crate) fn field(bytes: &[u8], offset: usize, width: usize) -> u64
     requires { (length bytes.now ≤ 8) × (offset + width ≤ 8 * length bytes.now) × (0 < width) × (width < 64) }
     ensures { result ≡ Bits.field bytes.now offset width }
 {
+    let mut eight = [0; 8];
+    eight[8 - bytes.len()..].copy_from_slice(bytes);
     let below = 8 * bytes.len() - (offset + width);
-    (number(bytes) >> below) % (1 << width)
+    (u64::from_be_bytes(eight) >> below) & ((1 << width) - 1)
 }

@@ -2,7 +2,6 @@
 #![tactic(auto)]
 
 mod bits;
-mod elements;
 pub mod header;
 pub mod judge;
 pub mod read;

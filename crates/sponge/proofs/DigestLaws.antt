@@ -4,8 +4,7 @@ use mathlib.Core.List.{List, ◌++◌}
 use mathlib.Core.Path.{◌≡◌}
 use Prim.Native.Nat.{ℕ}
 use native.Mathlib.Omega.{arith}
-use lib.ListN.{get_or, length, length-take}
-use Rattle.numbers.specs.Lists.{tab}
+use lib.ListN.{length, length-take}
 use Rattle.rounds.specs.Field.{Below}
 use Rattle.sponge.specs.declared.Domain.TheVariants.{VariableLength, FixedLength}
 use Rattle.sponge.specs.declared.Tip5.{Tip5}
@@ -14,12 +13,7 @@ use Rattle.sponge.specs.History.{padded_steps}
 use Rattle.sponge.specs.Sponge.{start}
 use Rattle.sponge.proofs.BelowLaws.{take-below}
 use Rattle.sponge.proofs.HistoryLaws.{run-below, run-length}
-use Rattle.sponge.proofs.ListLaws.{tab-take}
-use Rattle.sponge.proofs.SpongeLaws.{absorbed-below, absorbed-length, start-below, start-length}
-
-pub digest-words : (s : Tip5) → length s.state ≡ 16 → tab 5 0 (λ k. get_or s.state k 0) ≡ digest s
-unfolding digest
-digest-words s e = tab-take 5 s.state (omega arith)
+use Rattle.sponge.proofs.SpongeLaws.{absorbed_below, absorbed-length, start_below, start-length}
 
 pub digest-length : (s : Tip5) → length s.state ≡ 16 → length (digest s) ≡ 5
 unfolding digest
@@ -37,7 +31,7 @@ digest_of_ten-length ten = digest-length _ (absorbed-length ten (start FixedLeng
 
 pub digest_of_ten-below : (ten : List ℕ) → Below (digest_of_ten ten)
 unfolding digest_of_ten
-digest_of_ten-below ten = digest-below _ (absorbed-below ten (start FixedLength))
+digest_of_ten-below ten = digest-below _ (absorbed_below ten (start FixedLength))
 
 pub digest_of_pair-length : (left right : List ℕ) → length (digest_of_pair left right) ≡ 5
 unfolding digest_of_pair
@@ -53,4 +47,4 @@ digest_of-length input = digest-length _ (run-length (padded_steps input) (start
 
 pub digest_of-below : (input : List ℕ) → Below (digest_of input)
 unfolding digest_of
-digest_of-below input = digest-below _ (run-below (padded_steps input) (start VariableLength) (start-below VariableLength))
+digest_of-below input = digest-below _ (run-below (padded_steps input) (start VariableLength) (start_below VariableLength))

@@ -5,6 +5,7 @@ use mathlib.Core.Path.{◌≡◌, ap, ◌∙◌}
 use Prim.Native.Nat.{ℕ, ◌+◌, ◌/◌, ◌≤◌, ◌<◌}
 use lib.ListN.{drop, length, take, length-map}
 use Rattle.rounds.specs.Field.{Below}
+use Rattle.refusals.specs.Judge.{none}
 use Rattle.sponge.specs.declared.Tip5.{Tip5}
 use Rattle.sponge.specs.Answers.{pad_refusal}
 use Rattle.sponge.specs.History.{Step, after, padded_steps, run}
@@ -14,7 +15,7 @@ use Rattle.sponge.specs.Sponge.{absorbed}
 use Rattle.sponge.specs.WalkBack.{Accepted}
 use Rattle.sponge.proofs.AcceptedLaws.{absorb-accepted, accepted-pad}
 use Rattle.sponge.proofs.PaddingLaws.{Tens, padded-last, padded-length, padded-more, padded-tens}
-use Rattle.sponge.proofs.SpongeLaws.{absorbed-below, absorbed-length, squeezed-below, squeezed-length}
+use Rattle.sponge.proofs.SpongeLaws.{absorbed_below, absorbed-length, squeezed-below, squeezed-length}
 
 -- Words
 
@@ -26,7 +27,7 @@ after-length (absorb ten) s = absorbed-length ten s
 pub after-below : (t : Step) (s : Tip5) → Below (after t s).state
 unfolding after
 after-below squeeze s = squeezed-below s
-after-below (absorb ten) s = absorbed-below ten s
+after-below (absorb ten) s = absorbed_below ten s
 
 pub run-length : (ts : List Step) (s : Tip5) → length s.state ≡ 16 → length (run ts s).state ≡ 16
 unfolding run
@@ -49,7 +50,7 @@ absorbs-accepted [] s h hs = tt
 absorbs-accepted (ten ∷ more) s h hs =
     (absorb-accepted s ten h.0 hs h.1, absorbs-accepted more (after (absorb ten) s) h.2 (after-below (absorb ten) s))
 
-pub padded-accepted : (s : Tip5) (input : List ℕ) → pad_refusal s input ≡ 0 → Accepted (padded_steps input) s
+pub padded-accepted : (s : Tip5) (input : List ℕ) → pad_refusal s input ≡ none → Accepted (padded_steps input) s
 unfolding padded_steps
 padded-accepted s input e =
     let words = accepted-pad s input e in

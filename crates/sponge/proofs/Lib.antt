@@ -1,11 +1,11 @@
 -- The laws of this crate's definitions.
 pub mod AcceptedLaws
-pub mod AnswerLaws
 pub mod BelowLaws
 pub mod DigestLaws
 pub mod HistoryLaws
-pub mod ListLaws
 pub mod PaddingLaws
-pub mod RecordLaws
 pub mod SpongeLaws
 pub mod WalkBack
+pub mod TensLaws
+pub mod RecordLaws
+pub mod StartLaws

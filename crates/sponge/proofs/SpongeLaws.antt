@@ -4,9 +4,8 @@ use mathlib.Core.List.{List, ◌++◌}
 use mathlib.Core.Path.{◌≡◌, refl, ap, ◌∙◌}
 use Prim.Native.Nat.{ℕ}
 use native.Mathlib.Omega.{arith}
-use lib.ListN.{drop, get_or, length, replicate, take, length-append, length-drop, length-take, take-append-drop}
+use lib.ListN.{drop, length, replicate, take, length-append, length-drop, length-take, take-append-drop}
 use lib.Seq.{drop_at}
-use Rattle.numbers.specs.Lists.{tab}
 use Rattle.rounds.specs.Field.{Below}
 use Rattle.rounds.proofs.RoundLaws.{permuted-below, permuted-length}
 use Rattle.rounds.proofs.RoundTrip.{inv_permuted-permuted}
@@ -16,7 +15,6 @@ use Rattle.sponge.specs.declared.Domain.TheVariants.{VariableLength, FixedLength
 use Rattle.sponge.specs.declared.Tip5.{Tip5}
 use Rattle.sponge.specs.Sponge.{absorbed, one, overwrite, permute, rate, squeezed, start, unabsorbed, unpermute, unsqueezed}
 use Rattle.sponge.proofs.BelowLaws.{append-below, drop-below, take-below}
-use Rattle.sponge.proofs.ListLaws.{tab-take}
 
 -- The starts
 
@@ -25,16 +23,12 @@ unfolding start
 start-length VariableLength = refl
 start-length FixedLength = refl
 
-pub start-below : (domain : Domain) → Below (start domain).state
+pub start_below : (domain : Domain) → Below (start domain).state
 unfolding start
-start-below VariableLength = all_below-below (replicate 16 0) tt
-start-below FixedLength = all_below-below (replicate 10 0 ++ replicate 6 one) tt
+start_below VariableLength = all_below-below (replicate 16 0) tt
+start_below FixedLength = all_below-below (replicate 10 0 ++ replicate 6 one) tt
 
 -- Words 0 to 9
-
-pub rate-words : (s : Tip5) → length s.state ≡ 16 → tab 10 0 (λ k. get_or s.state k 0) ≡ rate s
-unfolding rate
-rate-words s e = tab-take 10 s.state (omega arith)
 
 pub rate-length : (s : Tip5) → length s.state ≡ 16 → length (rate s) ≡ 10
 unfolding rate
@@ -48,9 +42,9 @@ pub overwrite-length : (ten : List ℕ) (s : Tip5) → length ten ≡ 10 → len
 unfolding overwrite
 overwrite-length ten s e l = omega (arith, length-append ten (drop 10 s.state), length-drop 10 s.state)
 
-pub overwrite-below : (ten : List ℕ) (s : Tip5) → Below ten → Below s.state → Below (overwrite ten s).state
+pub overwrite_below : (ten : List ℕ) (s : Tip5) → Below ten → Below s.state → Below (overwrite ten s).state
 unfolding overwrite
-overwrite-below ten s ht hs = append-below ten (drop 10 s.state) ht (drop-below 10 s.state hs)
+overwrite_below ten s ht hs = append-below ten (drop 10 s.state) ht (drop-below 10 s.state hs)
 
 -- what was overwritten is put back
 pub overwrite-rate : (ten : List ℕ) (s : Tip5) → length ten ≡ 10 → overwrite (rate s) (overwrite ten s) ≡ s
@@ -86,9 +80,9 @@ pub absorbed-length : (ten : List ℕ) (s : Tip5) → length (absorbed ten s).st
 unfolding absorbed
 absorbed-length ten s = permute-length (overwrite ten s)
 
-pub absorbed-below : (ten : List ℕ) (s : Tip5) → Below (absorbed ten s).state
+pub absorbed_below : (ten : List ℕ) (s : Tip5) → Below (absorbed ten s).state
 unfolding absorbed
-absorbed-below ten s = permute-below (overwrite ten s)
+absorbed_below ten s = permute-below (overwrite ten s)
 
 -- A step undone
 
@@ -99,4 +93,4 @@ unsqueezed-squeezed s e h = unpermute-permute s e h
 pub unabsorbed-absorbed : (ten : List ℕ) (s : Tip5) → length ten ≡ 10 → Below ten → length s.state ≡ 16 → Below s.state → unabsorbed (rate s) (absorbed ten s) ≡ s
 unfolding absorbed unabsorbed
 unabsorbed-absorbed ten s et ht es hs =
-    ap (overwrite (rate s)) (unpermute-permute (overwrite ten s) (overwrite-length ten s et es) (overwrite-below ten s ht hs)) ∙ overwrite-rate ten s et
+    ap (overwrite (rate s)) (unpermute-permute (overwrite ten s) (overwrite-length ten s et es) (overwrite_below ten s ht hs)) ∙ overwrite-rate ten s et

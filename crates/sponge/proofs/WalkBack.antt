@@ -5,44 +5,45 @@ use mathlib.Core.List.{List, [], ◌∷◌, reverse, reverse_aux}
 use mathlib.Core.Path.{◌≡◌, refl, ap, ap₂, ◌∙◌}
 use Prim.Native.Nat.{ℕ, zero, suc}
 use lib.ListN.{drop, length, replicate, take}
-use Rattle.refusals.specs.Judge.{unless}
-use Rattle.refusals.proofs.JudgeLaws.{accepted-below}
-use Rattle.sponge.specs.declared.by_value.SpongeAnswer.{SpongeAnswer}
+use Rattle.std.specs.Prelude.{Result, Ok}
+use Rattle.refusals.specs.declared.refusal.Refusal.{Refusal}
+use Rattle.refusals.specs.Judge.{Judgement, granted, none}
+use Rattle.refusals.proofs.JudgeLaws.{accepted_below}
 use Rattle.sponge.specs.declared.step_back.StepKind.{StepKind}
 use Rattle.sponge.specs.declared.step_back.StepKind.TheVariants.{Squeeze, Absorb}
 use Rattle.sponge.specs.declared.Tip5.{Tip5}
-use Rattle.sponge.specs.Answers.{granted, pad_refusal, next_sponge, pad_and_absorb_all, squeeze_refusal, step_back, absorb_refusal}
+use Rattle.sponge.specs.Answers.{pad_refusal, pad_and_absorb_all, squeeze_refusal, step_back, absorb_refusal}
 use Rattle.sponge.specs.History.{Step, after, padded_steps, run}
 use Rattle.sponge.specs.History.Step.{squeeze, absorb}
 use Rattle.sponge.specs.Sponge.{absorbed, rate, squeezed}
-use Rattle.sponge.specs.WalkBack.{Accepted, AllKept, Keeps, Kept, step_refusal, walk}
+use Rattle.sponge.specs.WalkBack.{Accepted, AllKept, Keeps, Kept, and_then, step_refusal, walk}
 use Rattle.sponge.proofs.AcceptedLaws.{accepted-absorb, places-accepted, absorb-accepted}
 use Rattle.sponge.proofs.HistoryLaws.{after-length, padded-accepted}
-use Rattle.sponge.proofs.SpongeLaws.{absorbed-below, rate-below, rate-length, squeezed-below, unabsorbed-absorbed, unsqueezed-squeezed}
+use Rattle.sponge.proofs.SpongeLaws.{absorbed_below, rate-below, rate-length, squeezed-below, unabsorbed-absorbed, unsqueezed-squeezed}
 
--- an answer whose refusal is none: a call that is not refused makes its steps
-pub next-granted : {n : ℕ} {next s : Tip5} (room : Tip5) → n ≡ 0 → next ≡ s → next_sponge n next room ≡ granted s
-next-granted {next = next} room none same = ap (λ (n : ℕ). next_sponge n next room) none ∙ ap granted same
+-- a call that is not refused makes its steps
+pub granted-ok : {j : Judgement} {next s : Tip5} → j ≡ none → next ≡ s → granted j next ≡ Ok s
+granted-ok e same = ap₂ (λ (j : Judgement) (t : Tip5). granted j t) e same
 
 -- One step
 
-pub back-squeeze : (s : Tip5) (places : List ℕ) → length s.state ≡ 16 → squeeze_refusal s ≡ 0 → length places ≡ 10
-    → step_back Squeeze (squeezed s) places ≡ granted s
+pub back-squeeze : (s : Tip5) (places : List ℕ) → length s.state ≡ 16 → squeeze_refusal s ≡ none → length places ≡ 10
+    → step_back Squeeze (squeezed s) places ≡ Ok s
 back-squeeze s places e accepted ten =
-    next-granted (squeezed s)
+    granted-ok
     (places-accepted (squeezed s) places ten (squeezed-below s))
-    (unsqueezed-squeezed s e (accepted-below s.state accepted))
+    (unsqueezed-squeezed s e (accepted_below s.state accepted))
 
-pub back-absorb : (s : Tip5) (ten : List ℕ) → length s.state ≡ 16 → absorb_refusal s ten ≡ 0
-    → step_back Absorb (absorbed ten s) (rate s) ≡ granted s
+pub back-absorb : (s : Tip5) (ten : List ℕ) → length s.state ≡ 16 → absorb_refusal s ten ≡ none
+    → step_back Absorb (absorbed ten s) (rate s) ≡ Ok s
 back-absorb s ten e accepted =
     let words = accepted-absorb s ten accepted in
-    next-granted (absorbed ten s)
-    (absorb-accepted (absorbed ten s) (rate s) (rate-length s e) (absorbed-below ten s) (rate-below s words.1))
+    granted-ok
+    (absorb-accepted (absorbed ten s) (rate s) (rate-length s e) (absorbed_below ten s) (rate-below s words.1))
     (unabsorbed-absorbed ten s words.0 words.2 e words.1)
 
-pub back-step : (t : Step) (s : Tip5) (k : Kept) → length s.state ≡ 16 → step_refusal t s ≡ 0 → Keeps t s k
-    → step_back k.kind (after t s) k.ten ≡ granted s
+pub back-step : (t : Step) (s : Tip5) (k : Kept) → length s.state ≡ 16 → step_refusal t s ≡ none → Keeps t s k
+    → step_back k.kind (after t s) k.ten ≡ Ok s
 unfolding after
 back-step squeeze s k e accepted kept =
     ap (λ (kind : StepKind). step_back kind (squeezed s) k.ten) kept.0 ∙ back-squeeze s k.ten e accepted kept.1
@@ -52,8 +53,8 @@ back-step (absorb ten) s k e accepted kept =
 -- Any list of steps
 
 -- a call that answers the sponge s leaves the other calls to be made on s
-walk-on : (k : Kept) (ks : List Kept) {s : Tip5} (t : Tip5) → step_back k.kind t k.ten ≡ granted s → walk (k ∷ ks) t ≡ walk ks s
-walk-on k ks t e = ap (λ (a : SpongeAnswer). unless a.refusal (walk ks a.sponge) a) e
+walk-on : (k : Kept) (ks : List Kept) {s : Tip5} (t : Tip5) → step_back k.kind t k.ten ≡ Ok s → walk (k ∷ ks) t ≡ walk ks s
+walk-on k ks t e = ap (λ (a : Result Tip5 Refusal). and_then a (walk ks)) e
 
 -- what is kept of the steps, last step first, and then any other calls
 walk-steps : (ts : List Step) (s : Tip5) (ks more : List Kept) → length s.state ≡ 16 → Accepted ts s → AllKept ts s ks
@@ -68,12 +69,12 @@ walk-steps (t ∷ ts) s (k ∷ ks) more e accepted kept =
 
 -- the sponge that the history began with
 pub walk-back : (ts : List Step) (s : Tip5) (ks : List Kept) → length s.state ≡ 16 → Accepted ts s → AllKept ts s ks
-    → walk (reverse ks) (run ts s) ≡ granted s
+    → walk (reverse ks) (run ts s) ≡ Ok s
 walk-back ts s ks e accepted kept = walk-steps ts s ks [] e accepted kept
 
 -- the sponge before step k, for every k: walk back what is kept of step k and those after it, last step first
 pub walk-back-to : (k : ℕ) (ts : List Step) (s : Tip5) (ks : List Kept) → length s.state ≡ 16 → Accepted ts s → AllKept ts s ks
-    → walk (reverse (drop k ks)) (run ts s) ≡ granted (run (take k ts) s)
+    → walk (reverse (drop k ks)) (run ts s) ≡ Ok (run (take k ts) s)
 unfolding run
 walk-back-to zero ts s ks e accepted kept = walk-back ts s ks e accepted kept
 walk-back-to (suc k) [] s [] e accepted kept = refl
@@ -83,14 +84,14 @@ walk-back-to (suc k) (t ∷ ts) s (x ∷ ks) e accepted kept =
     walk-back-to k ts (after t s) ks (after-length t s) accepted.1 kept.1
 
 -- the empty history gives the sponge itself
-pub walk-none : (s : Tip5) → walk [] s ≡ granted s
+pub walk-none : (s : Tip5) → walk [] s ≡ Ok s
 walk-none s = refl
 
 -- a padded absorb, each ten of which is a step
-pub walk-back-padded : (s : Tip5) (input : List ℕ) (ks : List Kept) → length s.state ≡ 16 → pad_refusal s input ≡ 0 → AllKept (padded_steps input) s ks
-    → walk (reverse ks) (pad_and_absorb_all s input).sponge ≡ granted s
+pub walk-back-padded : (s : Tip5) (input : List ℕ) (ks : List Kept) → length s.state ≡ 16 → pad_refusal s input ≡ none → AllKept (padded_steps input) s ks
+    → and_then (pad_and_absorb_all s input) (walk (reverse ks)) ≡ Ok s
 walk-back-padded s input ks e accepted kept =
-    ap (λ (a : SpongeAnswer). walk (reverse ks) a.sponge) (next-granted s accepted refl)
+    ap (λ (a : Result Tip5 Refusal). and_then a (walk (reverse ks))) (granted-ok {next = run (padded_steps input) s} accepted refl)
     ∙ walk-back (padded_steps input) s ks e (padded-accepted s input accepted) kept
 
 -- What is kept of a history can always be had: the ten overwritten words, and beside a squeeze ten zeros

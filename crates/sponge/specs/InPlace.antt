@@ -1,14 +1,16 @@
--- What a call in place answers, said as the answer by value: what it returns, and the record that it leaves.
-use Rattle.std.specs.Prelude.{ℕ}
-use Rattle.sponge.specs.declared.by_value.SpongeAnswer.{SpongeAnswer}
-use Rattle.sponge.specs.declared.by_value.SqueezeAnswer.{SqueezeAnswer}
-use Rattle.sponge.specs.declared.in_place.TenAnswer.{TenAnswer}
+-- What a call in place answers and leaves, said by the answer by value: it leaves the next sponge, or where it is refused the
+-- one that was lent.
+use Rattle.std.specs.Prelude.{List, ℕ, Result, Ok, Err}
+use Rattle.refusals.specs.declared.refusal.Refusal.{Refusal}
+use Rattle.refusals.specs.Judge.{Judgement, none}
 use Rattle.sponge.specs.declared.Tip5.{Tip5}
 
--- a refusal is returned
-abbrev pub leaving : (refusal : ℕ) → Tip5 → SpongeAnswer
-leaving n s = record { refusal = n; sponge = s }
+-- nothing but the refusal is answered
+abbrev pub leaving : Result Tip5 Refusal → (lent : Tip5) → Judgement × Tip5
+leaving (Ok next) lent = (none, next)
+leaving (Err refusal) lent = (Err refusal, lent)
 
--- a refusal and ten words are returned
-abbrev pub leaving_ten : TenAnswer → Tip5 → SqueezeAnswer
-leaving_ten r s = record { refusal = r.refusal; sponge = s; ten = r.ten }
+-- ten words are answered
+abbrev pub leaving_ten : Result (Tip5 × List ℕ) Refusal → (lent : Tip5) → Result (List ℕ) Refusal × Tip5
+leaving_ten (Ok (next, ten)) lent = (Ok ten, next)
+leaving_ten (Err refusal) lent = (Err refusal, lent)

@@ -1,24 +1,24 @@
 -- Walking back over a history: what is kept of it, and the calls that return its earlier sponges.
-use Rattle.std.specs.Prelude.{List, [], ◌∷◌, ◌≡◌, ℕ, length}
-use Rattle.refusals.specs.Judge.{unless}
-use Rattle.sponge.specs.declared.by_value.SpongeAnswer.{SpongeAnswer}
+use Rattle.std.specs.Prelude.{List, [], ◌∷◌, ◌≡◌, ℕ, length, Result, Ok, Err}
+use Rattle.refusals.specs.declared.refusal.Refusal.{Refusal}
+use Rattle.refusals.specs.Judge.{Judgement, none}
 use Rattle.sponge.specs.declared.step_back.StepKind.{StepKind}
 use Rattle.sponge.specs.declared.step_back.StepKind.TheVariants.{Squeeze, Absorb}
 use Rattle.sponge.specs.declared.Tip5.{Tip5}
-use Rattle.sponge.specs.Answers.{absorb_refusal, granted, squeeze_refusal, step_back}
+use Rattle.sponge.specs.Answers.{absorb_refusal, squeeze_refusal, step_back}
 use Rattle.sponge.specs.History.{Step, after}
 use Rattle.sponge.specs.History.Step.{squeeze, absorb}
 use Rattle.sponge.specs.Sponge.{rate}
 
 -- the refusal of the call that makes a step
-abbrev pub step_refusal : Step → Tip5 → ℕ
+abbrev pub step_refusal : Step → Tip5 → Judgement
 step_refusal squeeze s = squeeze_refusal s
 step_refusal (absorb ten) s = absorb_refusal s ten
 
 -- a history from the sponge s on: no step of it is refused where it is made
 abbrev pub Accepted : List Step → Tip5 → Type 0
 Accepted [] s = Unit
-Accepted (t ∷ ts) s = (step_refusal t s ≡ 0) × Accepted ts (after t s)
+Accepted (t ∷ ts) s = (step_refusal t s ≡ none) × Accepted ts (after t s)
 
 -- what is kept of a step: its kind and ten words
 pub record Kept : Type 0 where
@@ -37,9 +37,12 @@ AllKept [] s (k ∷ ks) = ⊥
 AllKept (t ∷ ts) s [] = ⊥
 AllKept (t ∷ ts) s (k ∷ ks) = Keeps t s k × AllKept ts (after t s) ks
 
+-- what comes of an answer that may be a refusal
+abbrev pub and_then : Result Tip5 Refusal → (Tip5 → Result Tip5 Refusal) → Result Tip5 Refusal
+and_then (Ok s) next = next s
+and_then (Err refusal) next = Err refusal
+
 -- calls of `step_back` in the list's order, each on the sponge that the one before answered, up to a refusal
-abbrev pub walk : List Kept → Tip5 → SpongeAnswer
-walk [] s = granted s
-walk (k ∷ ks) s =
-    let answer = step_back k.kind s k.ten in
-    unless answer.refusal (walk ks answer.sponge) answer
+abbrev pub walk : List Kept → Tip5 → Result Tip5 Refusal
+walk [] s = Ok s
+walk (k ∷ ks) s = and_then (step_back k.kind s k.ten) (walk ks)

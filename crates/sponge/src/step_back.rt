@@ -1,75 +1,60 @@
 // One step back: what an accepted squeeze or absorb did to a sponge is undone. A history is walked back by such calls in
 // turn, last step first.
-ghost use Rattle.std.specs.Prelude.{◌≡◌, length};
-ghost use Rattle.rounds.specs.Field.{Below};
+ghost use Rattle.std.specs.Prelude.{◌≡◌};
+ghost use Rattle.refusals.specs.Judge.{granted, word_refusal};
 ghost use Rattle.sponge.specs.Answers.{step_back};
+ghost use Rattle.sponge.specs.InPlace.{leaving};
 ghost use Rattle.sponge.specs.Sponge as Sponge;
 
-use crate::Tip5;
-use crate::by_value::{SpongeAnswer, overwrite};
-use crate::judge::{judge_absorb, judge_places};
+use crate::{RATE, Tip5};
+use refusals::Refusal;
+use refusals::judge::judge_length;
 use tip5::inverse::inv_permutation;
 
-// The two kinds of steps: there is no third.
-#[derive(Clone, Copy)]
+/// The two kinds of steps: there is no third. The ten words stand beside both, since a call refuses another length beside a
+/// squeeze too.
+#[derive(Clone, Copy, Debug, PartialEq, Eq, Hash)]
 pub enum StepKind {
     Squeeze,
     Absorb,
 }
 
-// The sponge before one permutation.
-fn unpermute(sponge: Tip5) -> Tip5
-    requires { Below sponge.state }
-    ensures { result ≡ Sponge.unpermute sponge }
-{
-    let state = sponge.state;
-    let answer = inv_permutation(state);
-    let before = answer.state;
-    Tip5 { state: before }
-}
-
-// The sponge before an absorb that overwrote the saved words.
-fn unabsorbed(sponge: Tip5, saved: &[u64]) -> Tip5
-    requires { (length saved.now ≡ 10) × Below sponge.state }
-    ensures { result ≡ Sponge.unabsorbed saved.now sponge }
-{
-    let unpermuted = unpermute(sponge);
-    overwrite(unpermuted, saved)
-}
-
-fn squeeze_back(sponge: Tip5, places: &[u64]) -> SpongeAnswer
-    ensures { result ≡ step_back StepKind.Squeeze sponge places.now }
-{
-    let refusal = judge_places(sponge, places);
-    if refusal != refusals::NONE {
-        return SpongeAnswer { refusal, sponge };
+impl Tip5 {
+    /// One step back. Beside an absorb the ten words are those that it overwrote, put back as given; beside a squeeze any ten
+    /// stand there, and are not judged. `WrongLength` where they are not ten, then `BadWord`.
+    #[tactic(auto, using(refusals::proofs::JudgeLaws::below_accepted), unfolding(crate::specs::Sponge::unsqueezed, crate::specs::Sponge::unabsorbed))]
+    pub fn step_back(&mut self, kind: StepKind, ten: &[u64]) -> Result<(), Refusal>
+        ensures { (result, self.new) ≡ leaving (step_back kind self.old ten.now) self.old }
+    {
+        match kind {
+            StepKind::Squeeze => {
+                judge_length(RATE, ten)?;
+                self.unpermute()
+            }
+            StepKind::Absorb => {
+                self.judge_absorb(ten)?;
+                self.unpermute()?;
+                self.overwrite(ten);
+                Ok(())
+            }
+        }
     }
-    SpongeAnswer {
-        refusal,
-        sponge: unpermute(sponge),
+
+    // One permutation undone, which judges the words.
+    #[tactic(auto, unfolding(crate::specs::Sponge::unpermute))]
+    fn unpermute(&mut self) -> Result<(), Refusal>
+        ensures { (result, self.new) ≡ leaving (granted (word_refusal self.old.state) (Sponge.unpermute self.old)) self.old }
+    {
+        self.state = inv_permutation(self.state)?;
+        Ok(())
     }
 }
 
-fn absorb_back(sponge: Tip5, saved: &[u64]) -> SpongeAnswer
-    ensures { result ≡ step_back StepKind.Absorb sponge saved.now }
-{
-    let refusal = judge_absorb(sponge, saved);
-    if refusal != refusals::NONE {
-        return SpongeAnswer { refusal, sponge };
-    }
-    SpongeAnswer {
-        refusal,
-        sponge: unabsorbed(sponge, saved),
-    }
-}
-
-// The sponge before the step. Beside an absorb the ten words are those that it overwrote, put back as given; beside a
-// squeeze any ten stand there.
-pub fn step_back(kind: StepKind, sponge: Tip5, ten: &[u64]) -> SpongeAnswer
+/// The sponge before the step, as the call in place leaves it. Refused as that is.
+pub fn step_back(kind: StepKind, sponge: Tip5, ten: &[u64]) -> Result<Tip5, Refusal>
     ensures { result ≡ step_back kind sponge ten.now }
 {
-    match kind {
-        StepKind::Squeeze => squeeze_back(sponge, ten),
-        StepKind::Absorb => absorb_back(sponge, ten),
-    }
+    let mut before = sponge;
+    before.step_back(kind, ten)?;
+    Ok(before)
 }

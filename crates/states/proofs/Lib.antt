@@ -1,3 +1,3 @@
 -- The laws of this crate's definitions.
-pub mod InPlaceLaws
 pub mod TraceLaws
+pub mod InPlaceLaws

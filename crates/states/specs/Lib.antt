@@ -1,4 +1,3 @@
 -- What the calls of this crate answer.
-pub mod Entering
 pub mod InPlace
 pub mod Trace

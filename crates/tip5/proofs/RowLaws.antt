@@ -1,13 +1,13 @@
 -- A row of the matrix times the words, summed one product at a time.
 -- Assumes nothing.
 use mathlib.Core.Path.{◌≡◌, sym, ap, ◌∙◌}
-use Prim.Native.Nat.{ℕ, ◌+◌, ◌-◌, ◌*◌, ◌%◌, ◌^◌, ◌<◌}
-use native.Mathlib.Nat.{add_assoc, add-zero, mul-one}
+use Prim.Native.Nat.{ℕ, ◌+◌, ◌-◌, ◌*◌, ◌^◌, ◌<◌}
+use native.Mathlib.Nat.{add_assoc, mul-one}
 use native.Mathlib.Omega.{arith}
 use Rattle.numbers.specs.Congruence.{Cong}
 use Rattle.numbers.specs.Lists.{total}
 use Rattle.numbers.specs.Modulus.{P, r_inv}
-use Rattle.numbers.proofs.Congruence.{cong-add, cong-eq, cong-mod, cong-mul, cong-refl, cong-remainder, cong-sym, cong-trans}
+use Rattle.numbers.proofs.Congruence.{cong-add, cong-eq, cong-mod, cong-mul, cong-refl, cong-trans}
 use Rattle.numbers.proofs.Lists.{total-next}
 use Rattle.numbers.proofs.Montgomery.{r_inv-inverse}
 use Rattle.rounds.specs.Field.{add, mul, raw_of}
@@ -31,11 +31,3 @@ unfolding add
 row-turn n c f sum h c< e e' =
     cong-trans (cong-add (cong-trans (cong-eq e') (cong-trans cong-mod (cong-add cong-refl e))) cong-refl)
     (cong-trans (cong-eq (add_assoc sum (f c) (total (n - (c + 1)) (c + 1) f) ∙ ap (λ (t : ℕ). sum + t) (sym (total-next n c f c<)))) h)
-
--- the last turn's sum is the remainder of the whole
-pub row-done : (n c : ℕ) (f : ℕ → ℕ) {sum whole : ℕ} → Cong P (sum + total (n - c) c f) whole → n ≡ c → sum < P → sum ≡ whole % P
-row-done n c f {sum} h e s< =
-    sym (cong-remainder (cong-trans (cong-sym h) (cong-eq (ap (λ (k : ℕ). sum + total k c f) none ∙ add-zero sum))) s<)
-  where
-    none : n - c ≡ 0
-    none = omega arith

@@ -1,93 +1,80 @@
-// The layers of a round undone, on states whose words are below P. Nothing is judged here.
-ghost use Rattle.std.specs.Prelude.{◌≡◌, ◌+◌, ◌%◌, ◌<◌, ◌≤◌, get_or};
+// The layers of a round undone. Its loops go by place, since a word's place says what is done to it.
+ghost use Rattle.std.specs.Prelude.{◌≡◌, ◌%◌, ◌<◌};
 ghost use Rattle.numbers.specs.Circulant.{row_sum};
-ghost use Rattle.numbers.specs.Fill.{Filled};
-ghost use Rattle.numbers.specs.Lists.{tab};
 ghost use Rattle.numbers.specs.Modulus.{P};
-ghost use Rattle.rounds.specs.Field.{Below};
 ghost use Rattle.rounds.specs.Constants.{inv_mds_column};
-ghost use Rattle.rounds.specs.Inverse.{inv_sbox, inv_sbox_layer, subtract_constants};
-ghost use Rattle.rounds.specs.InverseTables.{inv_lookup_table, raw_inv_column};
+ghost use Rattle.rounds.specs.Inverse.{inv_lookup, inv_sbox_layer, subtract_constants};
 ghost use Rattle.rounds.specs.Round.{circulant};
-ghost use Rattle.rounds.specs.Tables.{raw_constants};
 
+use crate::element::Element;
+use crate::layers::bytewise;
 use crate::seventh_root::seventh_roots;
-use crate::{field, layers};
+use crate::tables;
 
 // The round's constants subtracted.
-pub(crate) fn subtract_constants(constants: &[u64; 80], round: usize, words: [u64; 16]) -> [u64; 16]
-    requires constants_table { (constants.now ≡ raw_constants) × (round < 5) }
-    requires below { Below words }
+pub(crate) fn subtract_constants(round: usize, words: [Element; 16]) -> [Element; 16]
+    requires { round < 5 }
     ensures { result ≡ subtract_constants round words }
 {
     let mut out = words;
-    let mut r = 0;
-    while r < 16 {
-        out[r] = field::sub(words[r], constants[16 * round + r]);
-        r += 1;
+    for r in 0..16 {
+        out[r] = words[r] - tables::constant(round, r);
     }
     out
 }
 
 // Row r of the inverse matrix times the words.
-fn inv_row(column: &[u64; 16], words: [u64; 16], r: usize) -> u64
-    requires column_table { (column.now ≡ raw_inv_column) × (r < 16) }
-    requires below { Below words }
+fn inv_row(words: [Element; 16], r: usize) -> Element
+    requires { r < 16 }
     ensures { result ≡ row_sum inv_mds_column words r % P }
 {
-    let mut sum: u64 = 0;
-    let mut c = 0;
-    while c < 16 {
-        sum = field::add(sum, field::mul(column[(16 + r - c) % 16], words[c]));
-        c += 1;
+    let mut sum = Element::ZERO;
+    for c in 0..16 {
+        sum = sum + tables::inv_entry((16 + r - c) % 16) * words[c];
     }
     sum
 }
 
-pub(crate) fn inv_mds_matrix_mul(column: &[u64; 16], words: [u64; 16]) -> [u64; 16]
-    requires column_table { column.now ≡ raw_inv_column }
-    requires below { Below words }
+pub(crate) fn inv_mds_matrix_mul(words: [Element; 16]) -> [Element; 16]
     ensures { result ≡ circulant inv_mds_column words }
 {
     let mut out = words;
-    let mut r = 0;
-    while r < 16 {
-        out[r] = inv_row(column, words, r);
-        r += 1;
+    for r in 0..16 {
+        out[r] = inv_row(words, r);
     }
     out
 }
 
-// Words i to i + 3.
-fn four_of(s: [u64; 16], i: usize) -> [u64; 4]
-    requires { i ≤ 12 }
-    ensures { result ≡ tab 4 0 (λ k. get_or s (i + k) 0) }
+// Words 0 to 3.
+fn inv_split_and_lookup(a: Element) -> Element
+    ensures { result ≡ inv_lookup a }
 {
-    [s[i], s[i + 1], s[i + 2], s[i + 3]]
+    Element(bytewise(tables::inv_lookup, a.0))
 }
 
-// Words i to i + 3 by roots, put behind the words before i, which are done.
-fn put_roots(out: [u64; 16], s: [u64; 16], i: usize) -> [u64; 16]
-    requires place { (4 ≤ i) × (i ≤ 12) × Below s }
-    requires done { Filled 16 (λ k. inv_sbox k (get_or s k 0)) i out }
-    ensures { Filled 16 (λ k. inv_sbox k (get_or s k 0)) (i + 4) result }
-{
-    let roots = seventh_roots(four_of(s, i));
-    let mut next = out;
-    let mut k = 0;
-    while k < 4 {
-        next[i + k] = roots[k];
-        k += 1;
-    }
-    next
-}
-
-pub(crate) fn inv_sbox_layer(table: &[u8; 256], s: [u64; 16]) -> [u64; 16]
-    requires { (table.now ≡ inv_lookup_table) × Below s }
+#[tactic(auto, unfolding(rounds::specs::Inverse::inv_sbox_layer, rounds::specs::Inverse::inv_sbox, crate::specs::Powers::powers))]
+pub(crate) fn inv_sbox_layer(s: [Element; 16]) -> [Element; 16]
     ensures { result ≡ inv_sbox_layer s }
 {
-    let four = layers::lookup_words(table, s);
-    let eight = put_roots(four, s, 4);
-    let twelve = put_roots(eight, s, 8);
-    put_roots(twelve, s, 12)
+    let [r4, r5, r6, r7] = seventh_roots([s[4], s[5], s[6], s[7]]);
+    let [r8, r9, r10, r11] = seventh_roots([s[8], s[9], s[10], s[11]]);
+    let [r12, r13, r14, r15] = seventh_roots([s[12], s[13], s[14], s[15]]);
+    [
+        inv_split_and_lookup(s[0]),
+        inv_split_and_lookup(s[1]),
+        inv_split_and_lookup(s[2]),
+        inv_split_and_lookup(s[3]),
+        r4,
+        r5,
+        r6,
+        r7,
+        r8,
+        r9,
+        r10,
+        r11,
+        r12,
+        r13,
+        r14,
+        r15,
+    ]
 }

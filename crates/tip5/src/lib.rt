@@ -2,10 +2,11 @@
 #![tactic(auto)]
 
 pub mod b_field_element;
-mod field;
+mod element;
 pub mod inverse;
 mod inverse_layers;
 mod layers;
 pub mod permutation;
 mod seventh_root;
 mod stated;
+mod tables;

@@ -11,9 +11,9 @@ use Rattle.rounds.specs.Round.{permuted}
 use Rattle.rounds.specs.Field.{Below}
 use Rattle.rounds.proofs.RoundLaws.{inv_permuted-below, inv_permuted-length, permuted-below, permuted-length}
 use Rattle.rounds.proofs.RoundTrip.{inv_permuted-permuted, permuted-inv_permuted}
-use Rattle.refusals.specs.Judge.{word_refusal}
+use Rattle.refusals.specs.Judge.{none, word_refusal}
 use Rattle.refusals.proofs.UnlessLaws.{unless-granted}
-use Rattle.refusals.proofs.JudgeLaws.{accepted-below, below-accepted}
+use Rattle.refusals.proofs.JudgeLaws.{accepted_below, below_accepted}
 use Rattle.refusals.proofs.RefusalLaws.{first-last, length-accepted}
 use Rattle.tip5_c.specs.Bytes.{byte_at, bytes_of, words_of, word_at}
 use Rattle.tip5_c.specs.Export.{after, bytes_refusal}
@@ -31,7 +31,7 @@ words_of-length bytes = length-tab 16 0 (λ k. word_at bytes k)
 left : (move : List ℕ → List ℕ) (bytes : List ℕ) {w : List ℕ} → length bytes ≡ 128 → words_of bytes ≡ w → Below w → after move bytes ≡ bytes_of (move w)
 left move bytes {w} long e low =
     unless-granted (bytes_of (move (words_of bytes))) bytes
-    (first-last (word_refusal (words_of bytes)) (length-accepted bytes long) ∙ ap word_refusal e ∙ below-accepted w low)
+    (first-last (word_refusal (words_of bytes)) (length-accepted bytes long) ∙ ap word_refusal e ∙ below_accepted w low)
     ∙ ap (λ (s : List ℕ). bytes_of (move s)) e
 
 module _
@@ -41,17 +41,17 @@ module _
     (back : (s : List ℕ) → length s ≡ 16 → Below s → undo (move s) ≡ s)
   where
     -- a move that is undone on words is undone on their bytes
-    undone : (bytes : List ℕ) → length bytes ≡ 128 → ((i : ℕ) → get_or bytes i 0 < 256) → bytes_refusal bytes ≡ 0 → after undo (after move bytes) ≡ bytes
+    undone : (bytes : List ℕ) → length bytes ≡ 128 → ((i : ℕ) → get_or bytes i 0 < 256) → bytes_refusal bytes ≡ none → after undo (after move bytes) ≡ bytes
     undone bytes e b granted =
         let w = words_of bytes in
-        let h : Below w = accepted-below w (sym (first-last (word_refusal (words_of bytes)) (length-accepted bytes e)) ∙ granted) in
+        let h : Below w = accepted_below w (sym (first-last (word_refusal (words_of bytes)) (length-accepted bytes e)) ∙ granted) in
         ap (after undo) (left move bytes e refl h)
         ∙ left undo (bytes_of (move w)) (bytes_of-length (move w)) (words-of-bytes-of (move w) (long w) (λ k. omega (arith, low w k))) (low w)
         ∙ ap bytes_of (back w (words_of-length bytes) h)
         ∙ bytes-of-words-of bytes e b
 
-pub inverse-undoes : (bytes : List ℕ) → length bytes ≡ 128 → ((i : ℕ) → get_or bytes i 0 < 256) → bytes_refusal bytes ≡ 0 → after inv_permuted (after permuted bytes) ≡ bytes
+pub inverse-undoes : (bytes : List ℕ) → length bytes ≡ 128 → ((i : ℕ) → get_or bytes i 0 < 256) → bytes_refusal bytes ≡ none → after inv_permuted (after permuted bytes) ≡ bytes
 inverse-undoes = undone permuted inv_permuted permuted-length permuted-below inv_permuted-permuted
 
-pub permutation-undoes : (bytes : List ℕ) → length bytes ≡ 128 → ((i : ℕ) → get_or bytes i 0 < 256) → bytes_refusal bytes ≡ 0 → after permuted (after inv_permuted bytes) ≡ bytes
+pub permutation-undoes : (bytes : List ℕ) → length bytes ≡ 128 → ((i : ℕ) → get_or bytes i 0 < 256) → bytes_refusal bytes ≡ none → after permuted (after inv_permuted bytes) ≡ bytes
 permutation-undoes = undone inv_permuted permuted inv_permuted-length inv_permuted-below permuted-inv_permuted

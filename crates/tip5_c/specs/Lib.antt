@@ -1,4 +1,3 @@
 -- What the exports answer.
 pub mod Bytes
 pub mod Export
-pub mod Halves

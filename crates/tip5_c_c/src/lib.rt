@@ -6,19 +6,22 @@
 ghost use Rattle.std.specs.Prelude.{◌≡◌};
 ghost use Rattle.rounds.specs.Inverse.{inv_permuted};
 ghost use Rattle.rounds.specs.Round.{permuted};
+ghost use Rattle.refusals.specs.Number.{number};
 ghost use Rattle.tip5_c.specs.Export.{after, bytes_refusal};
 
+/// `tip5_c::tip5_permutation` for C.
 #[unsafe(no_mangle)]
 pub extern "C" fn tip5_permutation(state: &mut [u8]) -> u32
-    ensures value { result ≡ bytes_refusal state.old }
+    ensures value { result ≡ number (bytes_refusal state.old) }
     ensures state_after { state.new ≡ after permuted state.old }
 {
     tip5_c::tip5_permutation(state)
 }
 
+/// `tip5_c::tip5_inverse_permutation` for C.
 #[unsafe(no_mangle)]
 pub extern "C" fn tip5_inverse_permutation(state: &mut [u8]) -> u32
-    ensures value { result ≡ bytes_refusal state.old }
+    ensures value { result ≡ number (bytes_refusal state.old) }
     ensures state_after { state.new ≡ after inv_permuted state.old }
 {
     tip5_c::tip5_inverse_permutation(state)

@@ -36,54 +36,56 @@ const EXPONENTS: [u64; 8] = [
 /// Cases of each call besides one at each edge.
 const BY_CHANCE: usize = 12;
 
-/// One stored case.
+/// The calls, as the replay program names them.
+const CALLS: [&str; 8] = [
+    "New",
+    "FromRawU64",
+    "RawU64",
+    "Value",
+    "Add",
+    "Sub",
+    "Mul",
+    "ModPow",
+];
+
+/// One stored case: the call by its place in `CALLS`, and no answer where it is refused.
 struct Case {
-    call: u64,
+    call: usize,
     a: u64,
     b: u64,
-    refusal: u64,
-    answer: u64,
+    answer: Option<u64>,
 }
 
 pub fn file() -> String {
-    let cases = cases();
-    let column = |part: fn(&Case) -> u64| cases.iter().map(part).collect::<Vec<u64>>();
-    let calls =
-        "The call: 0 new, 1 from_raw_u64, 2 raw_u64, 3 value, 4 add, 5 sub, 6 mul, 7 mod_pow.";
+    let rows: Vec<String> = cases().iter().map(row).collect();
     [
         rattle::header(
             "Stored answers of the Rust's field calls, and refusals by the requirements.",
         ),
-        rattle::number("The number of cases.", "CASES", cases.len()),
-        rattle::array(calls, "CALL", &column(|case| case.call)),
-        "\n".to_string(),
-        rattle::array("What goes in first.", "A", &column(|case| case.a)),
-        "\n".to_string(),
-        rattle::array(
-            "What goes in second, 0 where there is nothing.",
-            "B",
-            &column(|case| case.b),
-        ),
-        "\n".to_string(),
-        rattle::array(
-            "The refusal, 0 for none.",
-            "REFUSAL",
-            &column(|case| case.refusal),
-        ),
-        "\n".to_string(),
-        rattle::array(
-            "The answer, 0 where it is refused.",
-            "ANSWER",
-            &column(|case| case.answer),
+        "use crate::{Call, Case};\nuse refusals::Refusal;\n\n".to_string(),
+        rattle::table(
+            "The call, the words that go in, the second 0 where there is none, and the answer.",
+            "CASES",
+            "Case",
+            &rows,
         ),
     ]
     .concat()
 }
 
+fn row(case: &Case) -> String {
+    let answer = match case.answer {
+        Some(word) => format!("Ok({word})"),
+        None => "Err(Refusal::BadWord)".to_string(),
+    };
+    let call = format!("Call::{}", CALLS[case.call]);
+    rattle::tuple(&[call, case.a.to_string(), case.b.to_string(), answer])
+}
+
 fn cases() -> Vec<Case> {
     let random = &mut Random::new(SEED, "vectors of the field");
     let mut cases = vec![];
-    for call in 0..8 {
+    for call in 0..CALLS.len() {
         for a in EDGES {
             let b = match call {
                 0..=3 => 0,
@@ -101,7 +103,7 @@ fn cases() -> Vec<Case> {
     cases
 }
 
-fn case(call: u64, a: u64, b: u64) -> Case {
+fn case(call: usize, a: u64, b: u64) -> Case {
     let elements: &[u64] = match call {
         0 => &[],
         1..=3 | 7 => &[a],
@@ -121,7 +123,6 @@ fn case(call: u64, a: u64, b: u64) -> Case {
         call,
         a,
         b,
-        refusal: refused.into(),
-        answer: if refused { 0 } else { answer() },
+        answer: (!refused).then(answer),
     }
 }

@@ -32,17 +32,22 @@ pub fn file() -> String {
             (0..7).map(|_| states::random(random)).collect(),
         ),
     ];
-    let count = groups.iter().map(|(_, _, states)| states.len()).sum();
-    let mut text = rattle::header(
-        "Stored traces of the Rust's permutation, one after another: the entry state and that after\n\
-         // each round, 96 words.",
-    );
-    text += &rattle::number("The number of traces.", "CASES", count);
-    let arrays = groups.map(|(comment, name, states)| {
-        let traces = states
-            .iter()
-            .flat_map(|&state| permutation::trace(state).concat());
-        rattle::array(comment, name, &traces.collect::<Vec<u64>>())
+    let tables = groups.map(|(comment, name, states)| {
+        let traces: Vec<String> = states.into_iter().map(trace).collect();
+        rattle::table(comment, name, "Trace", &traces)
     });
-    text + &arrays.join("\n")
+    [
+        rattle::header(
+            "Stored traces of the Rust's permutation: the entry state and that after each round.",
+        ),
+        "use crate::Trace;\n\n".to_string(),
+        tables.join("\n"),
+    ]
+    .concat()
+}
+
+/// A trace as an entry of a table.
+fn trace(state: State) -> String {
+    let states = permutation::trace(state).map(|state| rattle::nested(2, &state));
+    format!("    [\n{}    ],\n", states.concat())
 }

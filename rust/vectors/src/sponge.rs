@@ -19,41 +19,41 @@ pub fn file() -> String {
     let random = &mut Random::new(SEED, "vectors of the sponge");
     let tens = tens(random);
     let list: Vec<u64> = (0..LONGEST).map(|_| words::good(random)).collect();
-    let digests = tens.iter().flat_map(|&ten| {
+    let digests = tens.iter().map(|&ten| {
         let [left, right] = [&ten[..5], &ten[5..]].map(|five| five.try_into().unwrap());
         let digest = sponge::hash_10(ten);
         assert_eq!(digest, sponge::hash_pair(left, right));
         digest
     });
-    let list_digests = (0..=LONGEST).flat_map(|length| sponge::hash_varlen(&list[..length]));
+    let list_digests = (0..=LONGEST).map(|length| sponge::hash_varlen(&list[..length]));
     let chain = chain(&tens);
     let padded = chain
         .iter()
         .enumerate()
-        .flat_map(|(k, &state)| sponge::pad_and_absorb_all(state, &list[..STRIDE * k]));
+        .map(|(k, &state)| sponge::pad_and_absorb_all(state, &list[..STRIDE * k]));
     let arrays = [
-        rattle::array("Tens of words.", "TENS", &tens.concat()),
-        rattle::array(
+        rows("Tens of words.", "TENS", &tens),
+        rows(
             "The digest of each ten, and of its two halves as a pair.",
             "TEN_DIGESTS",
-            &digests.collect::<Vec<u64>>(),
+            &digests.collect::<Vec<_>>(),
         ),
         rattle::array("A list of words.", "LIST", &list),
-        rattle::array(
+        rows(
             "The digest of its first 0, 1, 2, .. words.",
             "LIST_DIGESTS",
-            &list_digests.collect::<Vec<u64>>(),
+            &list_digests.collect::<Vec<_>>(),
         ),
-        rattle::array(
+        rows(
             "A variable-length start, and the states after an absorb of the first ten, a squeeze, an\n\
              // absorb of the third ten, and so on.",
             "CHAIN",
-            &chain.concat(),
+            &chain,
         ),
-        rattle::array(
+        rows(
             "Each state of the chain after the list's first 0, 6, 12, .. words were padded and absorbed.",
             "PADDED",
-            &padded.collect::<Vec<u64>>(),
+            &padded.collect::<Vec<_>>(),
         ),
         rattle::array(
             "A fixed-length start.",
@@ -62,6 +62,12 @@ pub fn file() -> String {
         ),
     ];
     rattle::header("Stored answers of the Rust's sponge and digests.") + &arrays.join("\n")
+}
+
+/// A table of arrays of so many words.
+fn rows<const N: usize>(comment: &str, name: &str, rows: &[[u64; N]]) -> String {
+    let entries: Vec<String> = rows.iter().map(|row| rattle::nested(1, row)).collect();
+    rattle::table(comment, name, &format!("[u64; {N}]"), &entries)
 }
 
 /// Zeros, ones, the largest words, edges, and words as chance has them.

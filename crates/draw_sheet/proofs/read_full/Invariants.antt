@@ -3,8 +3,8 @@
 use Rattle.std.proofs.Common.{length, ◌-◌, ◌≤◌}
 use Rattle.draw_sheet.proofs.read_full.Given as goal
 
-abbrev pub invariant-loop-at : goal.invariant-loop-at
-invariant-loop-at g l = l.at ≤ length l.buf
+abbrev pub invariant-loop-n : goal.invariant-loop-n
+invariant-loop-n g l = l.at ≤ length l.buf
 
-abbrev pub decreases-loop-at : goal.decreases-loop-at
-decreases-loop-at g l = length l.buf - l.at
+abbrev pub decreases-loop-n : goal.decreases-loop-n
+decreases-loop-n g l = length l.buf - l.at

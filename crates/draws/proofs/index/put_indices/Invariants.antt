@@ -1,13 +1,10 @@
--- `index::put_indices` meets its contract.
+-- `index::put_indices`: what the words so far draw is put.
 -- Assumes nothing.
-use Prim.Native.Nat.{◌-◌, ◌≤◌}
-use lib.ListN.{length, take}
+use mathlib.Core.Path.{◌≡◌}
+use lib.ListN.{take}
 use Rattle.draws.specs.Draw.{from_words}
-use Rattle.draws.specs.Extended.{Extended}
+use Rattle.draws.specs.Filled.{filled}
 use Rattle.draws.proofs.index.put_indices.Given as goal
 
-abbrev pub invariant-loop-i : goal.invariant-loop-i
-invariant-loop-i l = (l.i ≤ length l.words) × Extended l.initial.indices l.found (from_words l.bound (take l.i l.words)) l.n l.indices
-
-abbrev pub decreases-loop-i : goal.decreases-loop-i
-decreases-loop-i l = length l.words - l.i
+abbrev pub invariant-loop-word : goal.invariant-loop-word
+invariant-loop-word l = (l.put, l.free) ≡ filled (from_words l.bound (take l.word-index l.words)) l.initial.free

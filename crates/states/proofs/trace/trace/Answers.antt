@@ -1,26 +1,19 @@
--- `trace::trace` meets its contract.
+-- `trace::trace`: each round is granted, and brings one state more.
 -- Assumes nothing.
-use mathlib.Core.List.{List}
-use mathlib.Core.Path.{sym, ◌∙◌}
-use Prim.Native.Nat.{ℕ}
-use lib.ListN.{replicate}
-use Rattle.refusals.proofs.UnlessLaws.{answer-granted, answer-refused}
-use Rattle.refusals.proofs.JudgeLaws.{accepted-below}
-use Rattle.states.specs.declared.trace.TraceAnswer.{TraceAnswer}
-use Rattle.states.specs.Trace.{six_states}
+use Rattle.std.proofs.Common.{rules}
+use Rattle.states.proofs.TraceLaws.{entered-none, entered-more, next-granted}
 use Rattle.states.proofs.trace.trace.Goals as goal
 
-abbrev trace_answer : ℕ → List ℕ → TraceAnswer
-trace_answer n six = record { refusal = n; states = six }
+pub loop-i-init : goal.loop-i-init
+loop-i-init c = search entered-none
 
-pub returns-then-refusal-ne-NONE : goal.returns-then-refusal-ne-NONE
-returns-then-refusal-ne-NONE c =
-    let s = c.args.state in
-    answer-refused trace_answer (six_states s) (replicate 96 0) c.judge_words-refusal.ensures c.if-refusal-ne-NONE.true
+pub returns-in_err-states : goal.returns-in_err-states
+returns-in_err-states c =
+    let granted = next-granted c.loop-i.invariant (search rules) c.loop-i-test.true in
+    absurd (search rules)
 
-pub six_states-requires : goal.six_states-requires
-six_states-requires c = accepted-below c.args.state (sym c.judge_words-refusal.ensures ∙ c.if-refusal-ne-NONE.false)
-
-pub returns : goal.returns
-returns c =
-    answer-granted trace_answer (replicate 96 0) c.judge_words-refusal.ensures c.if-refusal-ne-NONE.false c.six_states.ensures
+pub loop-i-preserved : goal.loop-i-preserved
+loop-i-preserved c =
+    let granted = next-granted c.loop-i.invariant (search rules) c.loop-i-test.true in
+    let more = entered-more c.loop-i.invariant c.loop-i-test.true in
+    search rules

@@ -1,6 +1,6 @@
 -- `inverse_layers::inv_mds_matrix_mul` meets its contract.
 -- Assumes nothing.
-use Prim.Native.Nat.{◌-◌, ◌%◌}
+use Prim.Native.Nat.{◌%◌}
 use Rattle.numbers.specs.Circulant.{row_sum}
 use Rattle.numbers.specs.Fill.{Filled}
 use Rattle.numbers.specs.Modulus.{P}
@@ -9,6 +9,3 @@ use Rattle.tip5.proofs.inverse_layers.inv_mds_matrix_mul.Given as goal
 
 abbrev pub invariant-loop-r : goal.invariant-loop-r
 invariant-loop-r l = Filled 16 (λ k. row_sum inv_mds_column l.words k % P) l.r l.out
-
-abbrev pub decreases-loop-r : goal.decreases-loop-r
-decreases-loop-r l = 16 - l.r

@@ -1,6 +1,5 @@
 -- `layers::add_constants` meets its contract.
 -- Assumes nothing.
-use Prim.Native.Nat.{◌-◌}
 use lib.ListN.{get_or}
 use Rattle.numbers.specs.Fill.{Filled}
 use Rattle.rounds.specs.Field.{add}
@@ -9,6 +8,3 @@ use Rattle.tip5.proofs.layers.add_constants.Given as goal
 
 abbrev pub invariant-loop-r : goal.invariant-loop-r
 invariant-loop-r l = Filled 16 (λ k. add (get_or l.words k 0) (constant l.round k)) l.r l.out
-
-abbrev pub decreases-loop-r : goal.decreases-loop-r
-decreases-loop-r l = 16 - l.r

@@ -1,22 +1,27 @@
 -- `layers::sbox_layer` meets its contract.
 -- Assumes nothing.
-use mathlib.Core.Path.{sym, ◌∙◌}
+use mathlib.Core.Path.{◌≡◌, sym, ◌∙◌}
 use native.Mathlib.Omega.{arith}
-use Rattle.numbers.proofs.Fill.{filled-more, filled-all}
-use Rattle.rounds.specs.Round.{sbox_layer}
-use Rattle.tip5.proofs.SboxLaws.{sbox-looked-up, sbox-power}
+use Rattle.std.proofs.lemmas.Grind.{common_steps}
+use lib.ListN.{get_or}
+use Rattle.numbers.proofs.Fill.{filled-all, filled-more}
+use Rattle.rounds.specs.Field.{power}
+use Rattle.rounds.specs.Round.{lookup, sbox_layer}
+use Rattle.tip5.proofs.SboxLaws.{sbox-lookup, sbox-power}
 use Rattle.tip5.proofs.layers.sbox_layer.Goals as goal
-
-pub loop-i-init : goal.loop-i-init
-loop-i-init c = (omega arith, sbox-looked-up c.args.s c.requires.0 c.lookup_words-out.ensures)
-
-pub seventh_power-requires : goal.seventh_power-requires
-seventh_power-requires c = c.requires.1 _
 
 pub loop-i-preserved : goal.loop-i-preserved
 loop-i-preserved c =
-    (omega arith, filled-more c.loop-i.invariant.1 c.loop-i-test.true (c.seventh_power.ensures ∙ sym (sbox-power _ c.loop-i.invariant.0)))
+    let l = c.loop-i in
+    let e : c.split_and_lookup.result ≡ lookup (get_or c.args.s l.i 0) = grind (arith, common_steps) in
+    filled-more l.invariant (omega arith) (e ∙ sym (sbox-lookup _ c.loop-i-test.true))
+
+pub loop-i-2-preserved : goal.loop-i-2-preserved
+loop-i-2-preserved c =
+    let l = c.loop-i-2 in
+    let e : c.seventh_power.result ≡ power (get_or c.args.s l.i 0) 7 = grind (arith, common_steps) in
+    filled-more l.invariant c.loop-i-2-test.true (e ∙ sym (sbox-power _ l.auto.i))
 
 pub returns : goal.returns
 unfolding sbox_layer
-returns c = filled-all c.loop-i.invariant.1 (omega arith)
+returns c = filled-all c.loop-i-2.invariant (omega arith)

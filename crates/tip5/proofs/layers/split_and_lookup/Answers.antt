@@ -1,15 +1,19 @@
 -- `layers::split_and_lookup` meets its contract.
 -- Assumes nothing.
-use mathlib.Core.Path.{ap, ap₂, ◌∙◌}
-use Prim.Native.Nat.{ℕ, ◌+◌, ◌*◌, ◌^◌}
-use lib.ListN.{get_or}
-use Rattle.rounds.proofs.BytewiseLaws.{bytewise-halves}
-use Rattle.tip5.specs.Element.{element_of}
+use mathlib.Core.Path.{◌≡◌, ap, subst⁻¹, ◌∙◌}
+use Prim.Native.Nat.{ℕ, ◌<◌}
+use borrow.Author.Rules.{rules}
+use Rattle.numbers.specs.Modulus.{P}
+use Rattle.rounds.specs.Round.{lookup, lookup_byte}
+use Rattle.rounds.proofs.LookupLaws.{lookup-below}
 use Rattle.tip5.proofs.layers.split_and_lookup.Goals as goal
 
+looked-up : (c : goal.After-bytewise) → c.bytewise.result ≡ lookup c.a.inside.0
+unfolding lookup
+looked-up c = c.bytewise.ensures lookup_byte (λ byte answer h met. search rules)
+
+pub invariant_of-result : goal.invariant_of-result
+invariant_of-result c = subst⁻¹ (λ (n : ℕ). n < P) (looked-up c) (lookup-below c.a.invariant)
+
 pub returns : goal.returns
-returns c =
-    let t = c.args.table.now in
-    ap element_of
-    (ap₂ (λ (l h : ℕ). l + h * 2 ^ 32) c.four_looked_up-low.ensures.0 c.four_looked_up-high.ensures.0
-    ∙ bytewise-halves (λ b. get_or t b 0) c.args.element.0)
+returns c = looked-up c ∙ ap lookup c.a.view_is

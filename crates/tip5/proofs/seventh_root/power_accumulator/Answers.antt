@@ -1,65 +1,42 @@
 -- `seventh_root::power_accumulator` meets its contract.
 -- Assumes nothing.
 use mathlib.Core.List.{[], ◌∷◌}
-use mathlib.Core.Path.{◌≡◌, sym}
-use Prim.Native.Nat.{ℕ, ◌<◌}
+use mathlib.Core.Path.{◌≡◌}
+use Prim.Native.Nat.{◌^◌}
 use native.Mathlib.Omega.{arith}
+use borrow.Author.Rules.{rules}
+use Rattle.std.proofs.lemmas.Grind.{common_steps}
+use lib.Dec.{lit<}
 use lib.ListN.{get_or}
-use Rattle.numbers.specs.Modulus.{P}
-use Rattle.rounds.specs.Field.{power}
-use Rattle.rounds.proofs.FieldLaws.{power-one}
-use Rattle.tip5.proofs.PowersLaws.{power-word, squared-all, squared-more}
+use Rattle.rounds.specs.Field.{mul}
+use Rattle.tip5.proofs.PowersLaws.{Raised, raised-one, squared-all, squared-more}
 use Rattle.tip5.proofs.seventh_root.power_accumulator.Goals as goal
 
-twice : {n : ℕ} → n < P → (n < P) × (n < P)
-twice h = (h, h)
+pub loop-init : goal.loop-init
+loop-init c = raised-one c.args.base
 
-pub loop-done-init : goal.loop-done-init
-loop-done-init c =
-    let one : (k : ℕ) → get_or c.args.base k 0 ≡ power (get_or c.args.base k 0) 1 = λ k. sym (power-one (c.requires.base_below k)) in
-    (omega arith, one 0, one 1, one 2, one 3)
-
-pub mul-w-requires : goal.mul-w-requires
-mul-w-requires c = twice (power-word _ _ c.loop-done.invariant.1)
-
-pub mul-x-requires : goal.mul-x-requires
-mul-x-requires c = twice (power-word _ _ c.loop-done.invariant.2)
-
-pub mul-y-requires : goal.mul-y-requires
-mul-y-requires c = twice (power-word _ _ c.loop-done.invariant.3)
-
-pub mul-z-requires : goal.mul-z-requires
-mul-z-requires c = twice (power-word _ _ c.loop-done.invariant.4)
-
-pub loop-done-preserved : goal.loop-done-preserved
-loop-done-preserved c =
-    let l = c.loop-done in (
-      omega arith,
-      squared-more _ _ l.invariant.1 c.mul-w.ensures,
-      squared-more _ _ l.invariant.2 c.mul-x.ensures,
-      squared-more _ _ l.invariant.3 c.mul-y.ensures,
-      squared-more _ _ l.invariant.4 c.mul-z.ensures,
-    )
-
-pub mul-requires : goal.mul-requires
-mul-requires c = (power-word _ _ c.loop-done.invariant.1, c.requires.tail_below 0)
-
-pub mul-requires-2 : goal.mul-requires-2
-mul-requires-2 c = (power-word _ _ c.loop-done.invariant.2, c.requires.tail_below 1)
-
-pub mul-requires-3 : goal.mul-requires-3
-mul-requires-3 c = (power-word _ _ c.loop-done.invariant.3, c.requires.tail_below 2)
-
-pub mul-requires-4 : goal.mul-requires-4
-mul-requires-4 c = (power-word _ _ c.loop-done.invariant.4, c.requires.tail_below 3)
+pub loop-preserved : goal.loop-preserved
+loop-preserved c =
+    let l = c.loop in
+    record {
+      at = λ k h.
+          let e : get_or c.map-square.result k 0 ≡ mul (get_or l.square k 0) (get_or l.square k 0) = (let f = c.map-square.ensures.items.at k 0 0 h in search rules) in
+          squared-more (get_or c.args.base k 0) l.counter (l.invariant.at k h) e;
+    }
 
 pub returns : goal.returns
 returns c =
-    let l = c.loop-done in
-    let b = c.args.tail in
-    let all : l.done ≡ c.args.times = omega arith in
-    let w = squared-all _ (get_or b 0 0) all l.invariant.1 c.mul.ensures in
-    let x = squared-all _ (get_or b 1 0) all l.invariant.2 c.mul-2.ensures in
-    let y = squared-all _ (get_or b 2 0) all l.invariant.3 c.mul-3.ensures in
-    let z = squared-all _ (get_or b 3 0) all l.invariant.4 c.mul-4.ensures in
-    λ i. w i ∷ x i ∷ y i ∷ z i ∷ []
+    let l = c.loop in
+    let base = c.args.base in
+    let tail = c.args.tail in
+    let all : l.counter ≡ c.args.times = omega arith in
+    let turned : Raised (2 ^ c.args.times) base l.square = (let r : Raised (2 ^ l.counter) base l.square = l.invariant in rw all at r) in
+    let m₀ : c.mul.result ≡ mul (get_or l.square 0 0) (get_or tail 0 0) = grind (arith, common_steps) in
+    let m₁ : c.mul-2.result ≡ mul (get_or l.square 1 0) (get_or tail 1 0) = grind (arith, common_steps) in
+    let m₂ : c.mul-3.result ≡ mul (get_or l.square 2 0) (get_or tail 2 0) = grind (arith, common_steps) in
+    let m₃ : c.mul-4.result ≡ mul (get_or l.square 3 0) (get_or tail 3 0) = grind (arith, common_steps) in
+    let e₀ = squared-all (get_or base 0 0) c.args.times (get_or tail 0 0) (turned.at 0 (lit< tt)) m₀ in
+    let e₁ = squared-all (get_or base 1 0) c.args.times (get_or tail 1 0) (turned.at 1 (lit< tt)) m₁ in
+    let e₂ = squared-all (get_or base 2 0) c.args.times (get_or tail 2 0) (turned.at 2 (lit< tt)) m₂ in
+    let e₃ = squared-all (get_or base 3 0) c.args.times (get_or tail 3 0) (turned.at 3 (lit< tt)) m₃ in
+    λ i. e₀ i ∷ e₁ i ∷ e₂ i ∷ e₃ i ∷ []

@@ -2,11 +2,8 @@
 -- Assumes nothing.
 use mathlib.Core.Path.{ap, ◌∙◌}
 use Rattle.tip5.specs.Powers.{powers}
-use Rattle.tip5.proofs.PowersLaws.{powers-powers, powers-words}
+use Rattle.tip5.proofs.PowersLaws.{powers-powers}
 use Rattle.tip5.proofs.seventh_root.seventh_roots.Goals as goal
-
-pub to_thirty_three_ones-requires : goal.to_thirty_three_ones-requires
-to_thirty_three_ones-requires c = powers-words 1227133513 _ c.to_eleven_octal_ones.ensures
 
 pub returns : goal.returns
 returns c =

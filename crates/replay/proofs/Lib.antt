@@ -1,2 +1,0 @@
--- The laws of this crate's definitions.
-mod DifferenceLaws

@@ -1,2 +1,0 @@
--- What the proofs of callers use.
-pub mod Carry
