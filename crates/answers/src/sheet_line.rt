@@ -1,4 +1,4 @@
-// The line that any bytes give, whatever they are.
+// The line that any bytes give, whatever they are. As in `lines` the array is lent and its count answered.
 ghost use Rattle.lines.specs.Put.{Front};
 ghost use Rattle.answers.specs.Answer.{sheet_line};
 

@@ -17,7 +17,7 @@ fn main(rt: HostRuntime) {
 }
 
 // Reads until the buffer is full, the input ends or a read fails, and answers how many bytes stand at
-// the front of the buffer then.
+// the front of the buffer then. No `for`: only the read that answers nothing tells that it was the last.
 fn read_full<R: Read>(input: &mut R, buf: &mut [u8]) -> usize
     ensures { result ≤ length buf.new }
 {

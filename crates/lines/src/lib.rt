@@ -1,6 +1,7 @@
 // The lines that the program writes, each at the front of a lent array. What stands in the array
 // after the line is left as it was. Not by `write!`: its contract speaks only where it answers Ok,
-// which it promises of no writer, and these calls answer a line on every input.
+// which it promises of no writer, and these calls answer a line on every input. The array is lent and
+// its count answered, since these calls are public and a library has no heap.
 #![tactic(auto)]
 
 mod put;

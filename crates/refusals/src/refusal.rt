@@ -34,6 +34,8 @@ impl From<Refusal> for u8 {
     }
 }
 
+// A function and no From: neither Result nor u32 is a type of this crate.
+
 /// What C is answered: the number of a refusal, 0 where nothing is refused.
 pub fn number(judgement: Result<(), Refusal>) -> u32
     ensures { result ≡ number judgement }

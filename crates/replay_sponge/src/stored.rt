@@ -1,4 +1,5 @@
-// The stored answers, group by group: each function makes the calls of a group and counts them.
+// The stored answers, group by group: each function makes the calls of a group and counts them. The tens, their digests and
+// the states of the chain are tables of their own, since a ten is hashed and is a step of the chain too.
 use crate::vectors::{CHAIN, FIXED_LENGTH, LIST, LIST_DIGESTS, PADDED, TEN_DIGESTS, TENS};
 use replay::Tally;
 use sponge::step_back::{StepKind, step_back};

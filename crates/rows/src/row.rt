@@ -46,6 +46,9 @@ impl<'a> Table<'a> {
         }
     }
 
+    // Three methods take a row below `rows`, from the one loop over them: a type for it would be made in that loop, to save one
+    // clause at each.
+
     // The sponge that absorbed a padded row. Its words and the table's are below P, so no call is refused.
     #[tactic(auto, using(crate::proofs::RowLaws::ten_granted, crate::proofs::RowLaws::ten_more, crate::proofs::TableLaws::row_fits))]
     pub(crate) fn row_sponge(&self, row: usize) -> Tip5

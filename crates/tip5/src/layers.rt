@@ -1,4 +1,5 @@
-// The layers of a fast round. Its loops go by place, since a word's place says what is done to it.
+// The layers of a fast round. Its loops go by place, since a word's place says what is done to it
+// (`array::from_fn` over a captured array did not close).
 ghost use Rattle.std.specs.Prelude.{◌≡◌, ◌+◌, ◌*◌, ◌/◌, ◌^◌, ◌<◌, ℕ};
 ghost use Rattle.numbers.specs.Circulant.{row_sum};
 ghost use Rattle.numbers.specs.Lists.{tab};
