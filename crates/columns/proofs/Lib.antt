@@ -1,2 +1,3 @@
 -- What a view owes of its parts.
 pub mod ViewLaws
+pub mod EntryLaws

@@ -5,9 +5,10 @@ use mathlib.Core.List.{List, [], ◌∷◌, ◌++◌}
 use mathlib.Core.Path.{◌≡◌, refl, ap, subst, sym, ◌∙◌}
 use Prim.Native.Nat.{ℕ, ◌+◌, ◌*◌, ◌≤◌, ◌<◌}
 use native.Mathlib.Nat.{le_of_suc-le-suc}
+use native.Mathlib.Omega.{arith}
 use borrow.Author.Tests.{eqb-true, leb-true, ltb-true}
 use lib.Dec.{eqb, leb, ltb}
-use lib.ListN.{drop, length, take}
+use lib.ListN.{drop, length, take, length-append}
 use lib.Seq.{take_at}
 use Rattle.std.specs.Prelude.{Ok, Err, IfOk, Result, T, is_ok}
 use Rattle.numbers.proofs.Lists.{length-tab}
@@ -62,20 +63,24 @@ module _ (sheet : List ℕ) {header : Header} (judged : Ok header ≡ judge_shee
   pub judged_good : sheet_refusal sheet ≡ none
   judged_good = (granted-ok (sheet_refusal sheet) (header_of sheet) judged).0
 
-  pub judged_header : header ≡ header_of sheet
-  judged_header = (granted-ok (sheet_refusal sheet) (header_of sheet) judged).1
+  pub header_read : header ≡ header_of sheet
+  header_read = (granted-ok (sheet_refusal sheet) (header_of sheet) judged).1
 
   -- its fields are within their bits
   pub judged_fields : (header.log2 < 32) × (header.indices ≤ 4095)
-  judged_fields = rw judged_header (field-below (take 6 sheet) 6 5, le_of_suc-le-suc (field-below (take 6 sheet) 24 12))
+  judged_fields = rw header_read (field-below (take 6 sheet) 6 5, le_of_suc-le-suc (field-below (take 6 sheet) 24 12))
 
   -- the words that are handed out
+
+  words-long : length (words_of header.elements sheet) ≡ header.elements
+  unfolding words_of
+  words-long = length-tab header.elements 0 (λ i. raw_of (value sheet i))
 
   pub words_read : (before : List ℕ) → read_words sheet before ≡ words_of header.elements sheet ++ drop header.elements before
   unfolding read_words
   words_read before =
       ap (λ (j : Judgement). unless j (elements_in_front sheet before) before) judged_good
-      ∙ ap (λ (h : Header). words_of h.elements sheet ++ drop h.elements before) (sym judged_header)
+      ∙ ap (λ (h : Header). words_of h.elements sheet ++ drop h.elements before) (sym header_read)
 
   -- stand in front
   pub words_in_front : (before : List ℕ) {now : List ℕ} → now ≡ read_words sheet before → take header.elements now ≡ words_of header.elements sheet
@@ -91,3 +96,16 @@ module _ (sheet : List ℕ) {header : Header} (judged : Ok header ≡ judge_shee
   words_accepted before e =
       ap word_refusal (words_in_front before e)
       ∙ below_accepted (words_of header.elements sheet) (tab-below header.elements 0 λ i. raw_of-below (value sheet i))
+
+  -- there is room for them, and their part is as long as asked for
+
+  pub part_room : (before : List ℕ) {now : List ℕ} → now ≡ read_words sheet before → header.elements ≤ length now
+  part_room before {now} e =
+      omega (
+        arith,
+        ap length (e ∙ words_read before) ∙ length-append (words_of header.elements sheet) (drop header.elements before),
+        words-long,
+      )
+
+  pub part_length : (before : List ℕ) {now : List ℕ} → now ≡ read_words sheet before → header.elements ≡ length (take header.elements now)
+  part_length before e = sym (ap length (words_in_front before e) ∙ words-long)
