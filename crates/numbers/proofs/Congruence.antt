@@ -2,11 +2,23 @@
 -- Assumes nothing.
 use mathlib.Core.Path.{◌≡◌, refl, sym, ap, ◌∙◌}
 use Prim.Native.Nat.{ℕ, zero, suc, ◌+◌, ◌*◌, ◌%◌, ◌^◌, ◌<◌}
-use native.Mathlib.Nat.{add-mod, add-mul-mod_self_right, mod-eq_of_lt, mod-mod, mul-one, mul-suc, mul-zero, pow-suc, pow-zero}
+use native.Mathlib.Nat.{
+  add-mod,
+  add-mul-mod_self_right,
+  add_right_cancel,
+  mod-eq_of_lt,
+  mod-mod,
+  mod-zero,
+  mul-one,
+  mul-suc,
+  mul-zero,
+  pow-suc,
+  pow-zero,
+}
+use native.Mathlib.Omega.{arith}
 use lib.Pow.{pow-add}
--- std's laws of a product whose factors may be reduced first, by the names that the laws of the field use
-pub use Rattle.std.proofs.lemmas.Nat.{mul-mod as mod-mul, mul-mod_first as mod-mul-left, mul-mod_second as mod-mul-right}
-use Rattle.std.proofs.lemmas.Nat.{pow-mod}
+-- std's laws of a power of a product, and of a product or a power whose factors may be reduced first, by the names that the laws here use
+pub use Rattle.std.proofs.lemmas.Nat.{mul-mod as mod-mul, mul-mod_first as mod-mul-left, mul-mod_second as mod-mul-right, mul-pow, pow-mod as mod-pow}
 use Rattle.numbers.specs.Congruence.{Cong}
 use Rattle.numbers.specs.Lists.{total}
 
@@ -28,7 +40,7 @@ one-pow (suc k) = pow-suc 1 k ∙ mul-one (1 ^ k) ∙ one-pow k
 
 -- a power of a reduced power
 pub mod-pow-pow : (a j k m : ℕ) → (a ^ j % m) ^ k % m ≡ a ^ (j * k) % m
-mod-pow-pow a j k m = pow-mod (a ^ j) k m ∙ ap (λ (n : ℕ). n % m) (pow-pow a j k)
+mod-pow-pow a j k m = mod-pow (a ^ j) k m ∙ ap (λ (n : ℕ). n % m) (pow-pow a j k)
 
 -- Congruence
 
@@ -74,11 +86,20 @@ cong-mul {m} {a} {b} {c} {d} h k = record { same = mod-mul a c m ∙ rw (h.same,
 
 -- powers of congruent numbers
 pub cong-pow : {m a b : ℕ} (k : ℕ) → Cong m a b → Cong m (a ^ k) (b ^ k)
-cong-pow {m} {a} {b} k h = record { same = sym (pow-mod a k m) ∙ ap (λ (n : ℕ). n ^ k % m) h.same ∙ pow-mod b k m }
+cong-pow {m} {a} {b} k h = record { same = sym (mod-pow a k m) ∙ ap (λ (n : ℕ). n ^ k % m) h.same ∙ mod-pow b k m }
 
 -- powers of a number that is congruent to 1
 pub cong-one-pow : {m a : ℕ} (k : ℕ) → Cong m a 1 → Cong m (a ^ k) 1
 cong-one-pow k h = cong-trans (cong-pow k h) (cong-eq (one-pow k))
+
+-- a number that was added on both sides may be taken away
+pub cong-add-cancel : {m a b : ℕ} (c : ℕ) → Cong m (a + c) (b + c) → Cong m a b
+cong-add-cancel {m = zero} {a} {b} c h =
+    cong-eq (add_right_cancel c (sym (mod-zero (a + c)) ∙ h.same ∙ mod-zero (b + c)))
+cong-add-cancel {m = suc m} {a} {b} c h = cong-trans (cong-sym (whole a)) (cong-trans (cong-add h cong-refl) (whole b))
+  where
+    whole : (x : ℕ) → Cong (suc m) (x + c + m * c) x
+    whole x = cong-trans (cong-eq (omega arith)) (cong-multiple c)
 
 -- totals of summands that are congruent one by one
 pub cong-total : {m : ℕ} (n i : ℕ) {f g : ℕ → ℕ} → ((c : ℕ) → Cong m (f c) (g c)) → Cong m (total n i f) (total n i g)

@@ -1,12 +1,14 @@
--- A loop that fills a list from the front, one entry a turn: none filled, one more, all; the same by another rule.
+-- A loop that fills a list from the front, one entry a turn: none filled, one more, all; the same by another rule. A loop that copies
+-- words to a place of a list, one a turn: one more.
 -- Assumes nothing.
 use mathlib.Core.List.{List}
-use mathlib.Core.Path.{◌≡◌, sym, ◌∙◌}
+use mathlib.Core.Path.{◌≡◌, sym, ap, ◌∙◌}
 use Prim.Native.Nat.{ℕ, ◌+◌, ◌<◌}
+use native.Mathlib.Numerals.{add-one}
 use native.Mathlib.Omega.{arith}
 use borrow.Author.Count.{below_more}
-use lib.ListN.{length, set, length-set}
-use lib.Seq.{get_or-set_same, get_or-set_other}
+use lib.ListN.{length, get_or, set, length-set}
+use lib.Seq.{get_or-set_same, get_or-set_other, paste, paste-suc}
 use Rattle.numbers.specs.Fill.{Filled}
 use Rattle.numbers.specs.Lists.{tab}
 use Rattle.numbers.proofs.Lists.{tab-unique}
@@ -28,3 +30,9 @@ filled-all {f = f} {out = out} h e = sym (tab-unique out f h.long (λ k l. h.fro
 
 pub filled-same : {n : ℕ} {f g : ℕ → ℕ} {r : ℕ} {out : List ℕ} → Filled n f r out → ((k : ℕ) → k < r → f k ≡ g k) → Filled n g r out
 filled-same h e = record { within = h.within; long = h.long; front = λ k l. h.front k l ∙ e k l }
+
+-- of the words s the first i were copied to place `at` of d: one word more
+pub paste-more : (d : List ℕ) (at : ℕ) (s : List ℕ) (i : ℕ) {out : List ℕ} {j v : ℕ} → at + i < length d → i < length s
+    → out ≡ paste d at s i → j ≡ at + i → v ≡ get_or s i 0 → set out j v ≡ paste d at s (i + 1)
+paste-more d at s i room there same place word =
+    (λ k. set (same k) (place k) (word k)) ∙ paste-suc d at s i 0 room there ∙ ap (paste d at s) (sym (add-one i))

@@ -4,6 +4,7 @@ pub mod Congruence
 pub mod Divisors
 pub mod Fill
 pub mod Generator
+pub mod Linear
 pub mod Lists
 pub mod Montgomery
 pub mod Pigeonhole

@@ -55,6 +55,12 @@ tab-next n i f h =
     let e : n - i ≡ suc (n - (i + 1)) = omega arith in
     ap (λ (k : ℕ). tab k i f) e ∙ ap (λ (k : ℕ). f i ∷ tab (n - (i + 1)) k f) (sym (add-one i))
 
+-- nothing is left at its end
+pub tab-none : (n i : ℕ) (f : ℕ → ℕ) → n ≤ i → tab (n - i) i f ≡ []
+tab-none n i f h =
+    let e : n - i ≡ 0 = omega arith in
+    ap (λ (k : ℕ). tab k i f) e
+
 -- one entry more, at the end
 pub tab-snoc : (n i : ℕ) (f : ℕ → ℕ) → tab (suc n) i f ≡ tab n i f ++ (f (i + n) ∷ [])
 tab-snoc zero i f = ap (λ (k : ℕ). f k ∷ []) (sym (add-zero i))
