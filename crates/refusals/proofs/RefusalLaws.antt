@@ -2,13 +2,14 @@
 -- the first. The refusals of a length and of a round.
 -- Assumes nothing.
 use mathlib.Core.List.{List, [], ◌∷◌}
-use mathlib.Core.Path.{◌≡◌, refl, ap, ◌∙◌}
-use Prim.Native.Nat.{ℕ, ◌<◌}
-use borrow.Author.Tests.{eq-eqb, eqb-true, lt-ltb, ne_eqb}
-use lib.Dec.{eqb}
-use lib.ListN.{length}
+use mathlib.Core.Path.{◌≡◌, refl, ap, sym, ◌∙◌}
+use Prim.Native.Nat.{ℕ, zero, suc, ◌≤◌, ◌<◌}
+use borrow.Author.Tests.{eq-eqb, eqb-true, le-ltb, lt-ltb, ltb-true, ne_eqb}
+use lib.Dec.{eqb, ltb}
+use lib.ListN.{get_or, length}
 use Rattle.std.specs.Prelude.{Ok, Err}
-use Rattle.refusals.specs.declared.refusal.Refusal.TheVariants.{WrongLength}
+use Rattle.refusals.specs.declared.refusal.Refusal.{Refusal}
+use Rattle.refusals.specs.declared.refusal.Refusal.TheVariants.{NoSuchRound, WrongLength}
 use Rattle.refusals.specs.Judge.{Judgement, first, length_refusal, none, round_refusal}
 use Rattle.refusals.proofs.JudgeLaws.{passed, refused-not-none}
 
@@ -30,6 +31,24 @@ pub none-first : (j : Judgement) (js : List Judgement) → first (j ∷ js) ≡ 
 none-first (Ok done) js h = (refl, h)
 none-first (Err e) js h = absurd (refused-not-none h)
 
+-- where nothing is refused first, nothing is refused
+pub none-refuses : (js : List Judgement) → first js ≡ none → (k : ℕ) → get_or js k none ≡ none
+none-refuses [] e k = refl
+none-refuses (Ok done ∷ js) e zero = refl
+none-refuses (Ok done ∷ js) e (suc k) = none-refuses js e k
+none-refuses (Err refusal ∷ js) e k = absurd (refused-not-none e)
+
+-- an early refusal, one that comes after a judgement that refuses nothing, and the last one
+
+pub first-stops : {j : Judgement} {refusal : Refusal} (js : List Judgement) → j ≡ Err refusal → first (j ∷ js) ≡ Err refusal
+first-stops js e = ap (λ (k : Judgement). first (k ∷ js)) e
+
+pub first-goes-on : {r j : Judgement} (js : List Judgement) → j ≡ none → r ≡ first js → r ≡ first (j ∷ js)
+first-goes-on js e h = h ∙ sym (first-past js e)
+
+pub first-ends : {r j l : Judgement} → j ≡ none → r ≡ l → r ≡ first (j ∷ l ∷ [])
+first-ends {l = l} e h = first-goes-on (l ∷ []) e (h ∙ sym (first-one l))
+
 -- Lengths
 
 pub length-accepted : {n : ℕ} (ws : List ℕ) → length ws ≡ n → length_refusal n ws ≡ none
@@ -45,3 +64,9 @@ accepted-length n ws e = eqb-true (length ws) n (passed (eqb (length ws) n) Wron
 
 pub round-accepted : {i : ℕ} → i < 5 → round_refusal i ≡ none
 round-accepted h = rw (lt-ltb _ _ h)
+
+pub round-refused : {i : ℕ} → 5 ≤ i → round_refusal i ≡ Err NoSuchRound
+round-refused h = rw (le-ltb _ _ h)
+
+pub accepted-round : (i : ℕ) → round_refusal i ≡ none → i < 5
+accepted-round i e = ltb-true i 5 (passed (ltb i 5) NoSuchRound e)

@@ -13,7 +13,7 @@ use Rattle.sponge.specs.History.{padded_steps, run}
 use Rattle.sponge.specs.Sponge.{start}
 use Rattle.sponge.proofs.DigestLaws.{digest_of-length}
 use Rattle.rows.specs.declared.table.Table.{Table}
-use Rattle.rows.specs.Rows.{digest_count, joined}
+use Rattle.rows.specs.Rows.{digest_count, joined, row}
 use Rattle.rows.specs.Table.{digests_in, row_in}
 use Rattle.rows.proofs.JoinedLaws.{joined_length}
 
@@ -36,17 +36,19 @@ pub digest_of-take : (ws : List ℕ) {s : Tip5} → s ≡ run (padded_steps ws) 
 unfolding digest_of digest
 digest_of-take ws e = ap (λ (s : Tip5). take 5 s.state) e
 
--- the digests of the first n rows in room for all
-module _ (t : Table) (room : List ℕ) where
-  -- five words a digest
-  digests-length : (n : ℕ) → length (digests_in t n) ≡ n * 5
-  digests-length n = joined_length _ 5 n λ i l. digest_of-length (row_in t i)
-
+-- the digests of the first n rows of any words in room for all
+module _ (words : List ℕ) (columns rows width : ℕ) (room : List ℕ) where
   -- and the room as it was after them
   abbrev pub front : ℕ → List ℕ
-  front n = digests_in t n ++ drop (n * 5) room
+  front n = joined n (λ r. digest_of (row words columns rows width r)) ++ drop (n * 5) room
 
-  -- they leave the room as long as it was
+  -- they leave the room as long as it was, five words a digest
   pub front_length : (n : ℕ) → n * 5 ≤ length room → length (front n) ≡ length room
   front_length n h =
-      omega (arith, length-append (digests_in t n) (drop (n * 5) room), length-drop (n * 5) room, digests-length n)
+      let digests = joined n (λ r. digest_of (row words columns rows width r)) in
+      omega (
+        arith,
+        length-append digests (drop (n * 5) room),
+        length-drop (n * 5) room,
+        joined_length (λ r. digest_of (row words columns rows width r)) 5 n (λ i l. digest_of-length (row words columns rows width i)),
+      )

@@ -10,7 +10,7 @@ use Rattle.refusals.proofs.JudgeLaws.{accepted_below, below_accepted}
 use Rattle.refusals.proofs.RefusalLaws.{accepted-length, first-none, length-accepted, none-first}
 use Rattle.sponge.specs.declared.step_back.StepKind.TheVariants.{Squeeze}
 use Rattle.sponge.specs.declared.Tip5.{Tip5}
-use Rattle.sponge.specs.Answers.{absorb_refusal, hash_pair_refusal, pad_refusal, step_back_refusal}
+use Rattle.sponge.specs.Answers.{absorb_refusal, hash10_refusal, hash_pair_refusal, pad_refusal, step_back_refusal}
 
 pub accepted-pad : (s : Tip5) (input : List ℕ) → pad_refusal s input ≡ none → Below s.state × Below input
 accepted-pad s input e =
@@ -27,6 +27,11 @@ pub accepted-places : (s : Tip5) (places : List ℕ) → step_back_refusal Squee
 accepted-places s places e =
     let long = none-first (length_refusal 10 places) (word_refusal s.state ∷ []) e in
     (accepted-length 10 places long.0, accepted_below s.state (none-first (word_refusal s.state) [] long.1).0)
+
+pub accepted-hash10 : (ten : List ℕ) → hash10_refusal ten ≡ none → (length ten ≡ 10) × Below ten
+accepted-hash10 ten e =
+    let long = none-first (length_refusal 10 ten) (word_refusal ten ∷ []) e in
+    (accepted-length 10 ten long.0, accepted_below ten (none-first (word_refusal ten) [] long.1).0)
 
 pub accepted-hash_pair : (left right : List ℕ) → hash_pair_refusal left right ≡ none → ((length left ≡ 5) × (length right ≡ 5)) × (Below left × Below right)
 accepted-hash_pair left right e =

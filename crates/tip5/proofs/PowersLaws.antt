@@ -13,9 +13,10 @@ use Rattle.numbers.specs.Lists.{tab}
 use Rattle.numbers.specs.Modulus.{P}
 use Rattle.numbers.proofs.Congruence.{cong-eq, cong-mod, cong-mul, cong-refl, cong-sym, cong-trans}
 use Rattle.numbers.proofs.Lists.{get_or-tab₀, tab-same}
-use Rattle.rounds.specs.Field.{mul, power, raw_of, value_of}
-use Rattle.rounds.proofs.FieldLaws.{mul-power, power-one}
+use Rattle.rounds.specs.Field.{Below, mul, power, raw_of, value_of}
+use Rattle.rounds.proofs.FieldLaws.{mul-power, power-below, power-one}
 use Rattle.rounds.proofs.FieldUndone.{power-power}
+use Rattle.rounds.proofs.RoundLaws.{tab-below}
 use Rattle.tip5.specs.Powers.{powers}
 
 mul-cong : {a b c d : ℕ} → Cong P a b → Cong P c d → mul a c ≡ mul b d
@@ -46,6 +47,10 @@ squared-more a n h e = cong-eq (product-power a (2 ^ n) (2 ^ n) e h h ∙ ap (po
 -- all of them, then a product
 pub squared-all : (a n u : ℕ) {w r : ℕ} → Cong P w (power a (2 ^ n)) → r ≡ mul w u → r ≡ mul (power a (2 ^ n)) u
 squared-all a n u h e = e ∙ mul-cong h cong-refl
+
+pub powers-below : (e : ℕ) (a : List ℕ) → Below (powers e a)
+unfolding powers
+powers-below e a = tab-below 4 0 λ k. power-below (get_or a k 0) e
 
 -- each of four words is the power of its place's
 pub record Raised (e : ℕ) (a x : List ℕ) : Type 0 where
