@@ -15,7 +15,7 @@ use Rattle.sponge.proofs.DigestLaws.{digest_of-below}
 use Rattle.lines.specs.Line.{refused_line}
 use Rattle.sheet.specs.declared.header.Header.{Header}
 use Rattle.sheet.specs.Sheet.{header_of, judge_sheet, read_words, sheet_refusal, words_of}
-use Rattle.sheet.proofs.JudgedLaws.{judged_good, header_read, words_accepted, words_in_front}
+use Rattle.sheet.proofs.JudgedLaws.{judged_good, judged_header, words_accepted, words_in_front}
 use Rattle.answers.specs.Answer.{digest_values, elements_of, job_line, seed_of, sheet_draw, sheet_line}
 use Rattle.answers.specs.Job.{line_by}
 
@@ -51,6 +51,6 @@ module _ (sheet before : List ℕ) {header : Header} {words : List ℕ} (judged 
   unfolding sheet_line
   line-accepted =
       ap (line_by header.job header) (words_in_front sheet judged before read)
-      ∙ ap (λ (h : Header). line_by h.job h (words_of h.elements sheet)) (header_read sheet judged)
+      ∙ ap (λ (h : Header). line_by h.job h (words_of h.elements sheet)) (judged_header sheet judged)
       ∙ by-job (header_of sheet).job sheet
       ∙ sym (ap (λ (j : Judgement). unless j (job_line (header_of sheet).job sheet) (refused_line (number j))) (judged_good sheet judged))
