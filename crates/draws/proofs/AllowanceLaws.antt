@@ -1,7 +1,7 @@
 -- A larger allowance: it never alters an index that is found, and it changes nothing at all where none is missing.
 -- Assumes nothing.
 use mathlib.Core.Bool.{Bool, true, false, cond}
-use mathlib.Core.List.{List, [], ◌++◌, append_assoc}
+use mathlib.Core.List.{List, [], ◌∷◌, ◌++◌, append_assoc}
 use mathlib.Core.Path.{◌≡◌, refl, ap, sym, ◌∙◌}
 use Prim.Native.Nat.{ℕ, ◌+◌, ◌-◌, ◌≤◌, ◌<◌}
 use native.Mathlib.Decide.{dec_le}
@@ -12,12 +12,15 @@ use lib.ListN.{drop, length, take}
 use lib.Seq.{take-append_seam}
 use Rattle.std.specs.Prelude.{Ok, Err}
 use Rattle.refusals.specs.declared.refusal.Refusal.{Refusal}
-use Rattle.refusals.specs.Judge.{Judgement, none, unless}
+use Rattle.refusals.specs.declared.refusal.Refusal.TheVariants.{BadWord, BadBound}
+use Rattle.refusals.specs.Judge.{Judgement, all_below, first, none, unless}
 use Rattle.sponge.specs.declared.Tip5.{Tip5}
 use Rattle.draws.specs.declared.error.DrawError.TheVariants.{Refused, AllowanceSpent}
-use Rattle.draws.specs.Answers.{draw_answer, draw_refusal, drawn, sample_indices, sampled_slice}
+use Rattle.draws.specs.Answers.{counted, draw_answer, draw_refusal, drawn, sample_indices, sampled_slice}
+use Rattle.draws.specs.Bound.{power_below}
 use Rattle.draws.specs.Draw.{Draw, draw, joined, nothing}
 use Rattle.draws.proofs.DrawLaws.{draw-add, draw-missing, draw-none, joined-nothing}
+use Rattle.draws.proofs.ReportLaws.{reported}
 
 -- Draws
 
@@ -48,10 +51,10 @@ drawn-front s bound {a} {b} wanted h = go (draw_refusal s bound)
     go (Ok done) = (_, ap (λ (d : Draw). d.indices) (draw-goes-on bound wanted s h))
     go (Err refusal) = ([], refl)
 
--- so the entries of the lent slice that were found stay
-pub larger-allowance : (s : Tip5) (bound : ℕ) {a b : ℕ} (before : List ℕ) → a ≤ b
+-- so the entries of the lent slice that are found stay
+pub drawn-stays : (s : Tip5) (bound : ℕ) {a b : ℕ} (before : List ℕ) → a ≤ b
     → (let found = length (drawn s bound a (length before)).indices in take found (sampled_slice s bound b before) ≡ take found (sampled_slice s bound a before))
-larger-allowance s bound {a} {b} before h =
+drawn-stays s bound {a} {b} before h =
     let few = (drawn s bound a (length before)).indices in
     let many = (drawn s bound b (length before)).indices in
     let front = drawn-front s bound (length before) h in
@@ -59,6 +62,15 @@ larger-allowance s bound {a} {b} before h =
     ∙ ap (take (length few)) (append_assoc few front.0 (drop (length many) before))
     ∙ take-append_seam few (front.0 ++ drop (length many) before)
     ∙ sym (take-append_seam few (drop (length few) before))
+
+-- and they are as many as the call reports
+pub larger-allowance : (s : Tip5) (bound : ℕ) {a b : ℕ} (before : List ℕ) → a ≤ b
+    → (let found = (counted (length before) (sample_indices s bound a (length before)).0).1.0 in take found (sampled_slice s bound b before) ≡ take found (sampled_slice s bound a before))
+larger-allowance s bound {a} {b} before h =
+    let found = ap (λ (counts : ℕ × ℕ). counts.0) (reported s bound a (length before)) in
+    ap (λ (n : ℕ). take n (sampled_slice s bound b before)) found
+    ∙ drawn-stays s bound before h
+    ∙ sym (ap (λ (n : ℕ). take n (sampled_slice s bound a before)) found)
 
 -- a call that is not refused found all that was wanted, and answers its squeezes
 pub accepted-all : (s : Tip5) (bound a wanted : ℕ) {squeezes : ℕ} → (sample_indices s bound a wanted).0 ≡ Ok squeezes
@@ -109,11 +121,11 @@ refused-nothing s bound a wanted e = go (draw_refusal s bound) (draw bound a wan
     go (Ok done) d h = absurd (tested (ltb (length d.indices) wanted) d h)
     go (Err refusal) d h = (cc, refl)
 
--- Indices are missing, and the whole allowance is spent
+-- Indices are missing, and the whole allowance is spent: by the error, which holds both counts
 
-pub refused-six : (s : Tip5) (bound a wanted : ℕ) {found squeezes : ℕ} → (sample_indices s bound a wanted).0 ≡ Err (AllowanceSpent found squeezes)
+pub spent-allowance : (s : Tip5) (bound a wanted : ℕ) {found squeezes : ℕ} → (sample_indices s bound a wanted).0 ≡ Err (AllowanceSpent found squeezes)
     → (found ≡ length (drawn s bound a wanted).indices) × (squeezes ≡ (drawn s bound a wanted).squeezes) × (found < wanted) × (squeezes ≡ a)
-refused-six s bound a wanted e = go (draw_refusal s bound) e
+spent-allowance s bound a wanted e = go (draw_refusal s bound) e
   where
     tested : (b : Bool) (d : Draw) {found squeezes : ℕ} → ltb (length d.indices) wanted ≡ b → cond b (Err (AllowanceSpent (length d.indices) d.squeezes)) (Ok d.squeezes) ≡ Err (AllowanceSpent found squeezes)
         → (found ≡ length d.indices) × (squeezes ≡ d.squeezes) × (length d.indices < wanted)
@@ -127,3 +139,29 @@ refused-six s bound a wanted e = go (draw_refusal s bound) e
         let t = tested (ltb (length d.indices) wanted) d refl h in
         (t.0, t.1, omega (arith, t.0, t.2), t.1 ∙ draw-missing bound a wanted s t.2)
     go (Err refusal) h = absurd (cc)
+
+-- and by the number 6, which no refusal before the draw has
+
+only-six : (words bound : Bool) (wanted : ℕ) (d : Draw)
+    → (let before = first (cond words none (Err BadWord) ∷ cond bound none (Err BadBound) ∷ []) in (counted wanted (draw_answer before wanted d)).0 ≡ 6 → before ≡ none)
+only-six true true wanted d e = refl
+only-six true false wanted d e = absurd (omega arith)
+only-six false bound wanted d e = absurd (omega arith)
+
+pub refused-six : (s : Tip5) (bound a wanted : ℕ)
+    → (let answer = counted wanted (sample_indices s bound a wanted).0 in answer.0 ≡ 6 → (answer.1.0 < wanted) × (answer.1.1 ≡ a))
+refused-six s bound a wanted e = go (draw_refusal s bound) (only-six (all_below s.state) (power_below 32 bound) wanted (drawn s bound a wanted) e) e
+  where
+    tested : (b : Bool) (d : Draw) → ltb (length d.indices) wanted ≡ b
+        → (let answer = counted wanted (cond b (Err (AllowanceSpent (length d.indices) d.squeezes)) (Ok d.squeezes)) in answer.0 ≡ 6
+        → (answer.1.0 < wanted) × (answer.1.1 ≡ d.squeezes) × (length d.indices < wanted))
+    tested true d t h = let missing = ltb-true (length d.indices) wanted t in (missing, refl, missing)
+    tested false d t h = absurd (omega arith)
+
+    go : (j : Judgement) → j ≡ none
+        → (let answer = counted wanted (draw_answer j wanted (unless j (draw bound a wanted s) (nothing s))) in answer.0 ≡ 6 → (answer.1.0 < wanted) × (answer.1.1 ≡ a))
+    go (Ok done) accepted h =
+        let d = draw bound a wanted s in
+        let t = tested (ltb (length d.indices) wanted) d refl h in
+        (t.0, t.1 ∙ draw-missing bound a wanted s t.2)
+    go (Err refusal) accepted h = absurd (cc)

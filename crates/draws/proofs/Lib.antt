@@ -7,6 +7,7 @@ pub mod DrawLaws
 pub mod DrawingLaws
 pub mod FilledLaws
 pub mod IndexLaws
+pub mod ReportLaws
 pub mod SourceLaws
 pub mod SqueezeLaws
 pub mod WalkBack

@@ -14,10 +14,11 @@ use Rattle.sponge.specs.History.{after, run}
 use Rattle.sponge.specs.History.Step.{squeeze}
 use Rattle.sponge.specs.WalkBack.{Accepted, AllKept, Kept, walk}
 use Rattle.sponge.proofs.WalkBack.{walk-back, walk-back-to}
-use Rattle.draws.specs.Answers.{draw_refusal, draw_steps, drawn, sample_indices}
+use Rattle.draws.specs.Answers.{counted, draw_refusal, draw_steps, drawn, sample_indices}
 use Rattle.draws.specs.Draw.{draw, nothing}
 use Rattle.draws.proofs.AnswerLaws.{accepted-draw}
 use Rattle.draws.proofs.DrawLaws.{draw-sponge, draw-squeezes}
+use Rattle.draws.proofs.ReportLaws.{reported}
 
 -- The steps
 
@@ -76,10 +77,19 @@ reverse_aux-replicate (suc n) m k = reverse_aux-replicate n (suc m) k ∙ ap (λ
 reverse-replicate : (n : ℕ) (k : Kept) → reverse (replicate n k) ≡ replicate n k
 reverse-replicate n k = reverse_aux-replicate n 0 k ∙ ap (λ (n : ℕ). replicate n k) (add-zero n)
 
--- as many squeezes walked back as the draw made, which are those that the call reports
-pub drawn-undone : (s : Tip5) (bound allowance wanted : ℕ) (places : List ℕ) → length s.state ≡ 16 → length places ≡ 10
+-- as many squeezes walked back as the draw made
+pub draw-undone : (s : Tip5) (bound allowance wanted : ℕ) (places : List ℕ) → length s.state ≡ 16 → length places ≡ 10
     → walk (replicate (drawn s bound allowance wanted).squeezes (record { kind = Squeeze; ten = places })) (sample_indices s bound allowance wanted).1 ≡ Ok s
-drawn-undone s bound allowance wanted places e ten =
+draw-undone s bound allowance wanted places e ten =
     let n = (drawn s bound allowance wanted).squeezes in
     ap (λ (ks : List Kept). walk ks (sample_indices s bound allowance wanted).1) (sym (reverse-replicate n (a_squeeze places)))
     ∙ drawn-walk-back s bound allowance wanted (replicate n (a_squeeze places)) e (squeezes-kept n s places ten)
+
+-- which are those that the call reports
+pub drawn-undone : (s : Tip5) (bound allowance wanted : ℕ) (places : List ℕ) → length s.state ≡ 16 → length places ≡ 10
+    → (let answer = sample_indices s bound allowance wanted in
+    walk (replicate (counted wanted answer.0).1.1 (record { kind = Squeeze; ten = places })) answer.1 ≡ Ok s)
+drawn-undone s bound allowance wanted places e ten =
+    let squeezes = ap (λ (counts : ℕ × ℕ). counts.1) (reported s bound allowance wanted) in
+    ap (λ (n : ℕ). walk (replicate n (a_squeeze places)) (sample_indices s bound allowance wanted).1) squeezes
+    ∙ draw-undone s bound allowance wanted places e ten
