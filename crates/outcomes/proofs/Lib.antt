@@ -1,6 +1,7 @@
 -- The statements, by what they are about.
 pub mod Element
 pub mod InPlace
+pub mod InPlaceClauses
 pub mod Judging
 pub mod Permutation
 pub mod Rows

@@ -1,4 +1,4 @@
--- No second outcome: rows, columns and the draw by value.
+-- No second outcome: rows, columns, the draw by value and the error of a draw.
 -- Assumes nothing.
 use mathlib.Core.Path.{◌≡◌}
 use base.Logic.{SProp}
@@ -14,6 +14,8 @@ use Rattle.columns.specs.contracts.Column.num_rows as num-rows
 use Rattle.columns.specs.contracts.Column.get as get
 use Rattle.rows.proofs.hash_rows.hash_rows_of_columns.Reads as hash-rows-of-columns
 use Rattle.draws.proofs.sample_indices.Reads as sample-indices
+use Rattle.draws.proofs.error.DrawErrorFromRefusal.from.Reads as draw-error-from
+use Rattle.draws.proofs.error.RefusalFromDrawError.from.Reads as refusal-from
 use Rattle.outcomes.specs.Outcome.{OneAnswer, OneExit, OneOutcome}
 use Rattle.outcomes.proofs.Same.{both, same}
 
@@ -34,6 +36,12 @@ sample-indices-once κs a x y e f h k = same h.0 k.0
 
 pub sample-indices-leaves : OneExit sample-indices.Learnt λ κs e. e.1.1.0.now
 sample-indices-leaves κs a x y e f h k = same h.1 k.1
+
+pub draw-error-from-once : OneAnswer draw-error-from.Learnt
+draw-error-from-once κs a x y e f h k = same h k
+
+pub refusal-from-once : OneAnswer refusal-from.Learnt
+refusal-from-once κs a x y e f h k = same h k
 
 module _ {M : Type 1} {𝓤 : Ura M} (𝓛 : Logic 𝓤) (mem : Memory → SProp 𝓤) (run : Routine → Fun 𝓤) where
   pub column-entry-once : OneOutcome 𝓤 column-entry.ended (column-entry.clauses 𝓛 mem run) λ κs x y e f. x ≡ y

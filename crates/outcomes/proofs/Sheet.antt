@@ -3,6 +3,7 @@
 use Rattle.lines.proofs.digest_line.Reads as digest-line
 use Rattle.lines.proofs.draw_line.Reads as draw-line
 use Rattle.lines.proofs.refused_line.Reads as refused-line
+use Rattle.sheet.proofs.header.HeaderFromArrayU86.from.Reads as header-from
 use Rattle.sheet.proofs.header.read_header.Reads as read-header
 use Rattle.sheet.proofs.judge.judge_sheet.Reads as judge-sheet
 use Rattle.sheet.proofs.read.read_sheet.Reads as read-sheet
@@ -31,6 +32,9 @@ pub refused-line-leaves : OneExit refused-line.Learnt λ κs e. e.1.0.now
 refused-line-leaves κs a x y e f h k = same h.stored k.stored
 
 -- Sheets
+
+pub header-from-once : OneAnswer header-from.Learnt
+header-from-once κs a x y e f h k = same h k
 
 pub read-header-once : OneAnswer read-header.Learnt
 read-header-once κs a x y e f h k = same h k
