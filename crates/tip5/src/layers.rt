@@ -10,6 +10,7 @@ ghost use Rattle.tip5.specs.Reduced.{reduced};
 
 use crate::element::{Element, raw_words, sum};
 use crate::tables;
+use words::sum::overflowing_add;
 
 // A word with each of its bytes looked up, by the one way's table or the other's.
 pub(crate) fn bytewise<F: Fn(u8) -> u8>(look_up: F, word: u64) -> u64
@@ -65,9 +66,9 @@ pub(crate) fn sbox_layer(s: [Element; 16]) -> [Element; 16]
 fn reduced_word(lo: u64, hi: u64) -> u64
     ensures { result ≡ reduced (lo / 16 + hi * 2 ^ 28) }
 {
-    let (low, carry) = (lo / 16).overflowing_add(hi % 68719476736 * 268435456);
+    let (low, carry) = overflowing_add(lo / 16, hi % 68719476736 * 268435456);
     let upper = hi / 68719476736 + u64::from(carry);
-    let (folded, carry) = low.overflowing_add(upper * 4294967295);
+    let (folded, carry) = overflowing_add(low, upper * 4294967295);
     folded + u64::from(carry) * 4294967295
 }
 
